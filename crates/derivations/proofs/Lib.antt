@@ -1,0 +1,16 @@
+pub mod ListLaws
+pub mod DistinctLaws
+pub mod DerivationLaws
+pub mod Numbering
+pub mod Subterms
+pub mod SheetDerives
+pub mod SheetFits
+pub mod BytesOf
+pub mod LayoutOf
+pub mod TermTableOf
+pub mod ContextTableOf
+pub mod LinesOf
+pub mod Listing
+pub mod SheetOf
+pub mod Complete
+pub mod Demand3Holds

@@ -1,0 +1,81 @@
+-- Laws of lists: the values of a function in order, joined lists, members by place, and numbers below a bound.
+-- Assumes nothing.
+use mathlib.Core.Path.{_≡_, refl, ap, ap₂, subst}
+use mathlib.Core.Logic.{⊎-elim}
+use mathlib.Core.List.{List, [], _∷_, map, flatMap, List·Memᴰ·head as here, List·Memᴰ·tail as there, List·Memᴰ·not-nil, List·Memᴰ·cases-cons, List·Memᴰ·append-cases, Memᴰ·append-left, Memᴰ·append-right}
+use Prim.Native.Nat.{ℕ, zero, suc, _<_}
+use native.Mathlib.Omega.{arith}
+use lib.ListN.{length, getD}
+use Rattle.terms.specs.Table.{AllBelow}
+use Rattle.derivations.specs.Lists.{_∈_, listed}
+
+module _ {A : Type 0} where
+  pub listed-length : (f : ℕ → A) (n : ℕ) → length (listed f n) ≡ n
+  unfolding listed
+  listed-length f zero = refl
+  listed-length f (suc n) = ap suc (listed-length (λ i. f (suc i)) n)
+
+  pub listed-at : (f : ℕ → A) (n i : ℕ) (d : A) → i < n → getD (listed f n) i d ≡ f i
+  unfolding listed
+  listed-at f zero i d h = absurd (omega arith)
+  listed-at f (suc n) zero d h = refl
+  listed-at f (suc n) (suc i) d h = listed-at (λ k. f (suc k)) n i d (omega arith)
+
+  pub in-listed : (f : ℕ → A) (n i : ℕ) → i < n → f i ∈ listed f n
+  unfolding listed
+  in-listed f zero i h = absurd (omega arith)
+  in-listed f (suc n) zero h = here refl
+  in-listed f (suc n) (suc i) h = there (in-listed (λ k. f (suc k)) n i (omega arith))
+
+  -- an element at some place below n
+  abbrev pub Among : (ℕ → A) → ℕ → A → Type 0
+  Among f n x = (i : ℕ) × (i < n) × (x ≡ f i)
+
+  pub of-listed : (f : ℕ → A) (n : ℕ) {x : A} → x ∈ listed f n → Among f n x
+  unfolding listed
+  of-listed f zero m = absurd (List·Memᴰ·not-nil m)
+  of-listed f (suc n) {x} m = ⊎-elim (λ e. (0, omega arith, e)) (λ k. later (of-listed (λ i. f (suc i)) n k)) (List·Memᴰ·cases-cons m)
+    where
+      later : Among (λ i. f (suc i)) n x → Among f (suc n) x
+      later a = (suc (a .0), omega (arith, a .1), a .2)
+
+  pub in-place : (l : List A) (i : ℕ) (d : A) → i < length l → getD l i d ∈ l
+  in-place [] i d h = absurd (omega arith)
+  in-place (x ∷ l) zero d h = here refl
+  in-place (x ∷ l) (suc i) d h = there (in-place l i d (omega arith))
+
+  pub place-of : {x : A} (l : List A) (d : A) → x ∈ l → Among (λ i. getD l i d) (length l) x
+  place-of [] d m = absurd (List·Memᴰ·not-nil m)
+  place-of {x} (y ∷ l) d m = ⊎-elim (λ e. (0, omega arith, e)) (λ k. later (place-of l d k)) (List·Memᴰ·cases-cons m)
+    where
+      later : Among (λ i. getD l i d) (length l) x → Among (λ i. getD (y ∷ l) i d) (suc (length l)) x
+      later a = (suc (a .0), omega (arith, a .1), a .2)
+
+module _ {A B : Type 0} (f : A → List B) where
+  pub in-flat : {y : A} {x : B} (l : List A) → y ∈ l → x ∈ f y → x ∈ flatMap f l
+  unfolding flatMap
+  in-flat [] k m = absurd (List·Memᴰ·not-nil k)
+  in-flat {y} {x} (z ∷ l) k m =
+      ⊎-elim (λ e. Memᴰ·append-left (flatMap f l) (subst (λ w. x ∈ f w) e m)) (λ q. Memᴰ·append-right (f z) (in-flat l q m)) (List·Memᴰ·cases-cons k)
+
+  pub of-flat : {x : B} (l : List A) → x ∈ flatMap f l → (y : A) × (y ∈ l) × (x ∈ f y)
+  unfolding flatMap
+  of-flat [] m = absurd (List·Memᴰ·not-nil m)
+  of-flat {x} (z ∷ l) m = ⊎-elim (λ k. (z, here refl, k)) (λ k. later (of-flat l k)) (List·Memᴰ·append-cases (f z) m)
+    where
+      later : (y : A) × (y ∈ l) × (x ∈ f y) → (y : A) × (y ∈ (z ∷ l)) × (x ∈ f y)
+      later a = (a .0, there (a .1), a .2)
+
+-- functions that agree below the bound
+pub map-below : {A : Type 0} (f g : ℕ → A) (n : ℕ) (l : List ℕ) → AllBelow n l → ((k : ℕ) → k < n → f k ≡ g k) → map f l ≡ map g l
+map-below f g n [] b h = refl
+map-below f g n (k ∷ l) b h = ap₂ _∷_ (h k (b .0)) (map-below f g n l (b .1) h)
+
+pub all-below : (n : ℕ) (l : List ℕ) → ((i : ℕ) → i < length l → getD l i 0 < n) → AllBelow n l
+all-below n [] h = tt
+all-below n (k ∷ l) h = (h 0 (omega arith), all-below n l (λ i b. h (suc i) (omega arith)))
+
+pub below-at : (n : ℕ) (l : List ℕ) → AllBelow n l → (i : ℕ) → i < length l → getD l i 0 < n
+below-at n [] b i h = absurd (omega arith)
+below-at n (k ∷ l) b zero h = b .0
+below-at n (k ∷ l) b (suc i) h = below-at n l (b .1) i (omega arith)

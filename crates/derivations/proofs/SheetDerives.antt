@@ -1,0 +1,98 @@
+-- Demand 3 (a): what an accepted sheet states is a derivation, and so is each beginning of it.
+-- Assumes nothing but demand 1, as a parameter.
+use mathlib.Core.Path.{_≡_, sym, _∙_, ap, subst, subst₂}
+use mathlib.Core.Logic.{_↔_}
+use mathlib.Core.List.{List, []}
+use Prim.Native.Nat.{ℕ, suc, _≤_, _<_}
+use native.Mathlib.Omega.{arith}
+use lib.ListN.{length, take, length-take}
+use lib.Seq.{getD-take, take-suc, length-take-le}
+use Rattle.terms.specs.Table.{AllBelow}
+use Rattle.rules.specs.Judgment.{Judgment, wf}
+use Rattle.rules.specs.Instance.{Instance}
+use Rattle.rules.specs.RuleTable.{premiseCount}
+use Rattle.sheets.specs.Lines.{premisesOf, citedBy, lineAt, statedAt, LineFollows}
+use Rattle.sheets.specs.Admission.{admitOf}
+use Rattle.sheets.specs.Good.{trailerFor, Good}
+use Rattle.sheets.specs.declared.admission.Admission.the-variants.{Accepted}
+use Rattle.derivations.specs.Lists.{listed}
+use Rattle.derivations.specs.Derivation.{judgmentAt, Derivation}
+use Rattle.derivations.specs.Accepted.{IsAccepted, statedBy}
+use Rattle.derivations.specs.Demand3.{Sound}
+use Rattle.derivations.proofs.ListLaws.{listed-length, listed-at, map-below, all-below}
+
+-- demand 1
+abbrev pub Demand1 : Type 0
+Demand1 = (b : List ℕ) (work T C L : ℕ) → (admitOf b work ≡ Accepted T C L) ↔ (Good b T C L × (T ≤ work))
+
+-- what a good sheet states
+module _ {b : List ℕ} {T C L : ℕ} (g : Good b T C L) where
+  pub stated-is : statedBy b ≡ listed (statedAt b T C) L
+  unfolding statedBy trailerFor
+  stated-is = ap (λ t. listed (statedAt b (t .terms) (t .contexts)) (t .lines)) (g .tables .laid .trailer)
+
+  pub stated-length : length (statedBy b) ≡ L
+  stated-length = ap length stated-is ∙ listed-length (statedAt b T C) L
+
+  pub stated-at : (i : ℕ) → i < L → judgmentAt (statedBy b) i ≡ statedAt b T C i
+  stated-at i h = ap (λ js. judgmentAt js i) stated-is ∙ listed-at (statedAt b T C) L i (wf []) h
+
+  cited-earlier : (i : ℕ) → i < L → AllBelow i (citedBy (lineAt b T C i))
+  unfolding citedBy premisesOf
+  cited-earlier i h =
+      let l = lineAt b T C i in
+      all-below i (citedBy l)
+      (λ j k.
+      let m : (j < premiseCount (l .rule)) × (j < 4) = omega (arith, length-take (premiseCount (l .rule)) (premisesOf l)) in
+      subst (λ p. p < i) (sym (getD-take (premiseCount (l .rule)) (premisesOf l) j 0 (m .0))) (g .lines i h .ok .earlier j (m .1) (m .0)))
+
+  pub stated-derivation : Derivation (statedBy b)
+  unfolding LineFollows
+  stated-derivation i h =
+      let k : i < L = omega (arith, stated-length) in
+      let l = lineAt b T C i in
+      record {
+        rule = l .rule;
+        places = citedBy l;
+        earlier = cited-earlier i k;
+        follows = subst₂ (Instance (l .rule))
+            (map-below (statedAt b T C) (judgmentAt (statedBy b)) i (citedBy l) (cited-earlier i k) (λ m n. sym (stated-at m (omega arith))))
+            (sym (stated-at i k)) (g .lines i k .follows);
+      }
+
+-- each beginning of a derivation is one
+pub beginning : (js : List Judgment) (n : ℕ) → n ≤ length js → Derivation js → Derivation (take n js)
+beginning js n h d i k =
+    let b : i < n = omega (arith, length-take-le n js h) in
+    let s = d i (omega arith) in
+    record {
+      rule = s .rule;
+      places = s .places;
+      earlier = s .earlier;
+      follows = subst₂ (Instance (s .rule))
+          (map-below (judgmentAt js) (judgmentAt (take n js)) i (s .places) (s .earlier) (λ m l. sym (getD-take n js m (wf []) (omega arith))))
+          (sym (getD-take n js i (wf []) b)) (s .follows);
+    }
+
+module _ (demand1 : Demand1) where
+  -- a sheet is accepted exactly if it is good
+  pub good-accepted : {b : List ℕ} {T C L : ℕ} → Good b T C L → IsAccepted b
+  good-accepted {b} {T} {C} {L} g = record { T = T; C = C; L = L; answer = λ work h. demand1 b work T C L .1 (g, h) }
+
+  pub accepted-good : (b : List ℕ) (a : IsAccepted b) → Good b (a .T) (a .C) (a .L)
+  accepted-good b a = demand1 b (a .T) (a .T) (a .C) (a .L) .0 (a .answer (a .T) (omega arith)) .0
+
+  -- the derivation of a line is what the sheet states up to that line
+  pub sound-by : Sound
+  sound-by b a =
+      let g = accepted-good b a in (
+        stated-length g,
+        λ i h. (
+          take (suc i) (statedBy b),
+          record {
+            derivation = beginning (statedBy b) (suc i) h (stated-derivation g);
+            before = take i (statedBy b);
+            last = take-suc (statedBy b) i (wf []) h;
+          },
+        ),
+      )

@@ -1,0 +1,5 @@
+pub mod Lists
+pub mod Derivation
+pub mod Fits
+pub mod Accepted
+pub mod Demand3

@@ -1,0 +1,1 @@
+// Derivations: what accepted sheets state. Theorems only; nothing runs here.

@@ -1,0 +1,17 @@
+pub mod TableLaws
+pub mod TableFitsLaws
+pub mod CandidateLaws
+pub mod ContextLaws
+pub mod TypingLaws
+pub mod EqualityLaws
+pub mod SubtypingLaws
+pub mod ContextTableLaws
+pub mod ContextTableCheckLaws
+pub mod ContextTableEntries
+pub mod ContextTableAnswers
+pub mod UniverseLaws
+pub mod ContextRuleAnswers
+pub mod ArmLaws
+pub mod MissedLaws
+pub mod RuleTableEntries
+pub mod ShapeLaws

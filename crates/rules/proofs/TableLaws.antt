@@ -1,0 +1,77 @@
+-- The rule table agrees with the rule ranges, the premise counts and the 255 marks: one test over all rows, that antt computes, and a
+-- law that reads it at each rule.
+use mathlib.Core.Path.{_≡_, refl, subst, sym}
+use mathlib.Core.Logic.{_↔_, _⊎_, inl, inr, Dec·and}
+use Prim.Native.Nat.{ℕ, zero, suc, _≤_, _<_}
+use native.Mathlib.Nat.{not-suc-le-zero, le-of-suc-le-suc, eq-or-lt-of-le}
+use native.Mathlib.Decide.{ℕ-discrete, decLe}
+use native.Mathlib.Omega.{arith}
+use lib.ListN.{length}
+use Rattle.rules.specs.RuleTable.{ruleTable, RowAgrees, conclusionForm, premiseCount, premiseForm, addedEntries, formOf}
+
+-- ten numbers for each of the 43 rules
+pub table-length : length ruleTable ≡ 430
+unfolding ruleTable
+table-length = refl
+
+abbrev IsYes : {P : Type 0} → Dec P → Type 0
+IsYes (yes p) = Unit {0}
+IsYes (no q) = ⊥
+
+holds : {P : Type 0} (d : Dec P) → IsYes d → P
+holds (yes p) t = p
+holds (no q) t = absurd t
+
+iff? : {P Q : Type 0} → Dec P → Dec Q → Dec (P ↔ Q)
+iff? (yes p) (yes q) = yes (λ x. q, λ y. p)
+iff? (yes p) (no q) = no (λ e. q (e .0 p))
+iff? (no p) (yes q) = no (λ e. p (e .1 q))
+iff? (no p) (no q) = yes (λ x. absurd (p x), λ y. absurd (q y))
+
+-- a statement at every number up to n, from it at n and at those below
+upTo : (P : ℕ → Type 0) {n : ℕ} → P n → ((j : ℕ) → j < n → P j) → (j : ℕ) → j < suc n → P j
+upTo P {n} p below j h = pick (eq-or-lt-of-le (le-of-suc-le-suc h))
+  where
+    pick : (j ≡ n) ⊎ (j < n) → P j
+    pick (inl e) = subst P (sym e) p
+    pick (inr l) = below j l
+
+next? : (P : ℕ → Type 0) {n : ℕ} → Dec (P n) → Dec ((j : ℕ) → j < n → P j) → Dec ((j : ℕ) → j < suc n → P j)
+next? P (yes p) (yes below) = yes (upTo P p below)
+next? P (yes p) (no q) = no (λ f. q (λ j h. f j (omega arith)))
+next? P {n} (no q) d = no (λ f. q (f n (omega arith)))
+
+below? : (P : ℕ → Type 0) → ((j : ℕ) → Dec (P j)) → (n : ℕ) → Dec ((j : ℕ) → j < n → P j)
+unfolding next?
+below? P p zero = yes (λ j h. absurd (not-suc-le-zero h))
+below? P p (suc n) = next? P (p n) (below? P p n)
+
+-- 255 stands exactly from the premise count on
+abbrev Marks : ℕ → (ℕ → ℕ) → Type 0
+Marks count column = (j : ℕ) → j < 4 → (column j ≡ 255) ↔ (count ≤ j)
+
+marks? : (count : ℕ) (column : ℕ → ℕ) → Dec (Marks count column)
+unfolding below? iff? ℕ-discrete decLe
+marks? count column = below? (λ j. (column j ≡ 255) ↔ (count ≤ j)) (λ j. iff? (ℕ-discrete (column j) 255) (decLe count j)) 4
+
+abbrev Row : ℕ → Type 0
+Row rule =
+    ((conclusionForm rule ≡ formOf rule) × (premiseCount rule ≤ 4))
+    × (Marks (premiseCount rule) (premiseForm rule) × Marks (premiseCount rule) (addedEntries rule))
+
+row? : (rule : ℕ) → Dec (Row rule)
+unfolding Dec·and marks? ℕ-discrete decLe
+row? rule =
+    Dec·and
+    (Dec·and (ℕ-discrete (conclusionForm rule) (formOf rule)) (decLe (premiseCount rule) 4))
+    (Dec·and (marks? (premiseCount rule) (premiseForm rule)) (marks? (premiseCount rule) (addedEntries rule)))
+
+rows : (k : ℕ) → k < 43 → Row (suc k)
+unfolding below? row? conclusionForm premiseCount premiseForm addedEntries formOf
+rows = holds (below? (λ k. Row (suc k)) (λ k. row? (suc k)) 43) tt
+
+-- the one theorem over all rows
+pub row-agrees : (rule : ℕ) → 1 ≤ rule → rule ≤ 43 → RowAgrees rule
+row-agrees zero h l = absurd (not-suc-le-zero h)
+row-agrees (suc k) h l =
+    let r = rows k l in record { concludes = r .0 .0; count = r .0 .1; forms = r .1 .0; added = r .1 .1 }

@@ -1,0 +1,127 @@
+-- The rule table: document 01, "The 43 rules". Ten numbers for each rule, in the rules' order: conclusion form, premise count, four
+-- premise forms, and four counts of entries that each premise's context adds to the conclusion's, 255 where there is no premise. For
+-- rule 2 the added entries are counted from the context without its last entry.
+use mathlib.Core.Path.{_≡_}
+use mathlib.Core.Logic.{_↔_}
+use mathlib.Core.List.{List, [], _∷_, _++_}
+use mathlib.Core.Bool.{true, false}
+use Prim.Native.Nat.{ℕ, _+_, _-_, _*_, _≤_, _<_}
+use lib.Dec.{leb, eqb}
+use lib.ListN.{getD, length, drop}
+use Rattle.rules.specs.Judgment.{Context, Judgment, form, contextOf}
+
+unfoldable pub ruleTable : List ℕ
+ruleTable =
+    0 ∷ 0 ∷ 255 ∷ 255 ∷ 255 ∷ 255 ∷ 255 ∷ 255 ∷ 255 ∷ 255 ∷  -- 1 WF-NIL
+    0 ∷ 2 ∷ 0 ∷ 1 ∷ 255 ∷ 255 ∷ 0 ∷ 0 ∷ 255 ∷ 255 ∷  -- 2 WF-CONS
+    1 ∷ 1 ∷ 0 ∷ 255 ∷ 255 ∷ 255 ∷ 0 ∷ 255 ∷ 255 ∷ 255 ∷  -- 3 WT-VAR
+    1 ∷ 2 ∷ 1 ∷ 1 ∷ 255 ∷ 255 ∷ 0 ∷ 1 ∷ 255 ∷ 255 ∷  -- 4 WT-PI
+    1 ∷ 1 ∷ 1 ∷ 255 ∷ 255 ∷ 255 ∷ 1 ∷ 255 ∷ 255 ∷ 255 ∷  -- 5 WT-ABS
+    1 ∷ 2 ∷ 1 ∷ 1 ∷ 255 ∷ 255 ∷ 0 ∷ 0 ∷ 255 ∷ 255 ∷  -- 6 WT-APP
+    1 ∷ 1 ∷ 0 ∷ 255 ∷ 255 ∷ 255 ∷ 0 ∷ 255 ∷ 255 ∷ 255 ∷  -- 7 WT-UNIV
+    1 ∷ 2 ∷ 1 ∷ 1 ∷ 255 ∷ 255 ∷ 0 ∷ 1 ∷ 255 ∷ 255 ∷  -- 8 WT-SIG
+    1 ∷ 3 ∷ 1 ∷ 1 ∷ 1 ∷ 255 ∷ 0 ∷ 0 ∷ 0 ∷ 255 ∷  -- 9 WT-PAIR
+    1 ∷ 1 ∷ 1 ∷ 255 ∷ 255 ∷ 255 ∷ 0 ∷ 255 ∷ 255 ∷ 255 ∷  -- 10 WT-PROJ1
+    1 ∷ 1 ∷ 1 ∷ 255 ∷ 255 ∷ 255 ∷ 0 ∷ 255 ∷ 255 ∷ 255 ∷  -- 11 WT-PROJ2
+    1 ∷ 1 ∷ 0 ∷ 255 ∷ 255 ∷ 255 ∷ 0 ∷ 255 ∷ 255 ∷ 255 ∷  -- 12 WT-NAT
+    1 ∷ 1 ∷ 0 ∷ 255 ∷ 255 ∷ 255 ∷ 0 ∷ 255 ∷ 255 ∷ 255 ∷  -- 13 WT-ZERO
+    1 ∷ 1 ∷ 1 ∷ 255 ∷ 255 ∷ 255 ∷ 0 ∷ 255 ∷ 255 ∷ 255 ∷  -- 14 WT-SUCC
+    1 ∷ 4 ∷ 1 ∷ 1 ∷ 1 ∷ 1 ∷ 1 ∷ 0 ∷ 0 ∷ 2 ∷  -- 15 WT-IND
+    1 ∷ 2 ∷ 1 ∷ 3 ∷ 255 ∷ 255 ∷ 0 ∷ 0 ∷ 255 ∷ 255 ∷  -- 16 WT-CONV
+    2 ∷ 1 ∷ 1 ∷ 255 ∷ 255 ∷ 255 ∷ 0 ∷ 255 ∷ 255 ∷ 255 ∷  -- 17 E-REFL
+    2 ∷ 1 ∷ 2 ∷ 255 ∷ 255 ∷ 255 ∷ 0 ∷ 255 ∷ 255 ∷ 255 ∷  -- 18 E-SYM
+    2 ∷ 2 ∷ 2 ∷ 2 ∷ 255 ∷ 255 ∷ 0 ∷ 0 ∷ 255 ∷ 255 ∷  -- 19 E-TRANS
+    2 ∷ 2 ∷ 2 ∷ 2 ∷ 255 ∷ 255 ∷ 0 ∷ 1 ∷ 255 ∷ 255 ∷  -- 20 E-PI
+    2 ∷ 1 ∷ 2 ∷ 255 ∷ 255 ∷ 255 ∷ 1 ∷ 255 ∷ 255 ∷ 255 ∷  -- 21 E-ABSEXT
+    2 ∷ 2 ∷ 2 ∷ 2 ∷ 255 ∷ 255 ∷ 0 ∷ 0 ∷ 255 ∷ 255 ∷  -- 22 E-APP
+    2 ∷ 2 ∷ 2 ∷ 2 ∷ 255 ∷ 255 ∷ 0 ∷ 1 ∷ 255 ∷ 255 ∷  -- 23 E-SIG
+    2 ∷ 2 ∷ 2 ∷ 2 ∷ 255 ∷ 255 ∷ 0 ∷ 0 ∷ 255 ∷ 255 ∷  -- 24 E-PAIREXT
+    2 ∷ 1 ∷ 2 ∷ 255 ∷ 255 ∷ 255 ∷ 0 ∷ 255 ∷ 255 ∷ 255 ∷  -- 25 E-PROJ1
+    2 ∷ 1 ∷ 2 ∷ 255 ∷ 255 ∷ 255 ∷ 0 ∷ 255 ∷ 255 ∷ 255 ∷  -- 26 E-PROJ2
+    2 ∷ 1 ∷ 2 ∷ 255 ∷ 255 ∷ 255 ∷ 0 ∷ 255 ∷ 255 ∷ 255 ∷  -- 27 E-SUC
+    2 ∷ 4 ∷ 2 ∷ 2 ∷ 2 ∷ 2 ∷ 1 ∷ 0 ∷ 0 ∷ 2 ∷  -- 28 E-IND
+    2 ∷ 2 ∷ 2 ∷ 3 ∷ 255 ∷ 255 ∷ 0 ∷ 0 ∷ 255 ∷ 255 ∷  -- 29 E-CONV
+    2 ∷ 2 ∷ 1 ∷ 1 ∷ 255 ∷ 255 ∷ 0 ∷ 1 ∷ 255 ∷ 255 ∷  -- 30 E-APPABS
+    2 ∷ 3 ∷ 1 ∷ 1 ∷ 1 ∷ 255 ∷ 0 ∷ 0 ∷ 0 ∷ 255 ∷  -- 31 E-PROJPAIR1
+    2 ∷ 3 ∷ 1 ∷ 1 ∷ 1 ∷ 255 ∷ 0 ∷ 0 ∷ 0 ∷ 255 ∷  -- 32 E-PROJPAIR2
+    2 ∷ 2 ∷ 1 ∷ 1 ∷ 255 ∷ 255 ∷ 0 ∷ 2 ∷ 255 ∷ 255 ∷  -- 33 E-INDZERO
+    2 ∷ 3 ∷ 1 ∷ 1 ∷ 1 ∷ 255 ∷ 0 ∷ 0 ∷ 2 ∷ 255 ∷  -- 34 E-INDSUC
+    3 ∷ 2 ∷ 3 ∷ 3 ∷ 255 ∷ 255 ∷ 0 ∷ 0 ∷ 255 ∷ 255 ∷  -- 35 L-TRANS
+    3 ∷ 1 ∷ 2 ∷ 255 ∷ 255 ∷ 255 ∷ 0 ∷ 255 ∷ 255 ∷ 255 ∷  -- 36 L-EQ
+    3 ∷ 1 ∷ 0 ∷ 255 ∷ 255 ∷ 255 ∷ 0 ∷ 255 ∷ 255 ∷ 255 ∷  -- 37 L-UNIV
+    3 ∷ 2 ∷ 3 ∷ 3 ∷ 255 ∷ 255 ∷ 0 ∷ 1 ∷ 255 ∷ 255 ∷  -- 38 L-PI
+    3 ∷ 2 ∷ 3 ∷ 3 ∷ 255 ∷ 255 ∷ 0 ∷ 1 ∷ 255 ∷ 255 ∷  -- 39 L-SIG
+    3 ∷ 1 ∷ 3 ∷ 255 ∷ 255 ∷ 255 ∷ 0 ∷ 255 ∷ 255 ∷ 255 ∷  -- 40 L-PIPROJ1
+    3 ∷ 2 ∷ 3 ∷ 2 ∷ 255 ∷ 255 ∷ 0 ∷ 0 ∷ 255 ∷ 255 ∷  -- 41 L-PIPROJ2
+    3 ∷ 1 ∷ 3 ∷ 255 ∷ 255 ∷ 255 ∷ 0 ∷ 255 ∷ 255 ∷ 255 ∷  -- 42 L-SIGPROJ1
+    3 ∷ 2 ∷ 3 ∷ 2 ∷ 255 ∷ 255 ∷ 0 ∷ 0 ∷ 255 ∷ 255 ∷  -- 43 L-SIGPROJ2
+    []
+
+-- the number in a rule's row, columns counted from 0; rules count from 1, and 255 stands past the end
+unfoldable pub tableAt : ℕ → ℕ → ℕ
+unfolding ruleTable
+tableAt rule column = getD ruleTable (10 * (rule - 1) + column) 255
+
+unfoldable pub conclusionForm : ℕ → ℕ
+unfolding tableAt
+conclusionForm rule = tableAt rule 0
+
+unfoldable pub premiseCount : ℕ → ℕ
+unfolding tableAt
+premiseCount rule = tableAt rule 1
+
+-- premises count from 0
+unfoldable pub premiseForm : ℕ → ℕ → ℕ
+unfolding tableAt
+premiseForm rule j = tableAt rule (2 + j)
+
+unfoldable pub addedEntries : ℕ → ℕ → ℕ
+unfolding tableAt
+addedEntries rule j = tableAt rule (6 + j)
+
+-- "The ranges 1-2, 3-16, 17-34 and 35-43 conclude forms 0, 1, 2 and 3"; 255, which is no form, where there is no such rule
+unfoldable pub formOf : ℕ → ℕ
+formOf rule =
+    elim (leb rule 0) [
+      | true ↦ 255
+      | false ↦
+          elim (leb rule 2) [
+            | true ↦ 0
+            | false ↦
+                elim (leb rule 16) [
+                  | true ↦ 1
+                  | false ↦
+                      elim (leb rule 34) [
+                        | true ↦ 2
+                        | false ↦
+                            elim (leb rule 43) [ true ↦ 3 | false ↦ 255 ]
+                      ]
+                ]
+          ]
+    ]
+
+-- A row agrees with the ranges and with itself: 255 marks exactly the places from the premise count on.
+pub record RowAgrees (rule : ℕ) : Type 0 where
+  pub concludes : conclusionForm rule ≡ formOf rule
+  pub count : premiseCount rule ≤ 4
+  pub forms : (j : ℕ) → j < 4 → (premiseForm rule j ≡ 255) ↔ (premiseCount rule ≤ j)
+  pub added : (j : ℕ) → j < 4 → (addedEntries rule j ≡ 255) ↔ (premiseCount rule ≤ j)
+
+-- H is G with n entries added
+pub record Adds (H G : Context) (n : ℕ) : Type 0 where
+  pub new : Context
+  pub many : length new ≡ n
+  pub joined : H ≡ new ++ G
+
+-- the context that a rule's added entries are counted from: the conclusion's, but for rule 2 that without its last entry
+unfoldable pub countedFrom : ℕ → Context → Context
+countedFrom rule G = elim (eqb rule 2) [ true ↦ drop 1 G | false ↦ G ]
+
+-- What a row says of an instance of its rule.
+pub record FitsRow (rule : ℕ) (premises : List Judgment) (conclusion : Judgment) : Type 0 where
+  pub isRule : (1 ≤ rule) × (rule ≤ 43)
+  pub concludes : form conclusion ≡ conclusionForm rule
+  pub count : length premises ≡ premiseCount rule
+  pub forms : (j : ℕ) → j < length premises → form (getD premises j conclusion) ≡ premiseForm rule j
+  pub added : (j : ℕ) → j < length premises
+      → Adds (contextOf (getD premises j conclusion)) (countedFrom rule (contextOf conclusion)) (addedEntries rule j)

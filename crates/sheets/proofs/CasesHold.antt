@@ -1,0 +1,28 @@
+-- M1 to M8: admission answers and leaves in the work buffer what document 01 says, by computation.
+-- Assumes nothing.
+use mathlib.Core.Path.{_≡_, refl}
+use mathlib.Core.List.{map}
+use Rattle.terms.specs.Tag.{tagOf, arity, used, shape}
+use Rattle.terms.specs.Words.{wordAt}
+use Rattle.terms.specs.Rows.{word, tag, termTo, term}
+use Rattle.terms.specs.Table.{usedLimit, limit}
+use Rattle.terms.specs.Sizes.{rowOf, fitsRow, holdsRow, repeatedBelow, sumTo, rowSize, sizeAnswer, rowAnswer, checkFrom, checkTerms}
+use Rattle.rules.specs.RuleTable.{formOf, premiseCount}
+use Rattle.rules.specs.Decision.{instance?}
+use Rattle.rules.specs.Contexts.{parentOf, typeOf, contextTo, context, contextFits, holdsContext, heldWithin, repeatedContext, rightContext, checkContextsFrom, checkContexts}
+use Rattle.rules.specs.Stated.{stated, judgmentOf as plainJudgment}
+use Rattle.sheets.specs.Layout.{contextsIn, linesIn, trailerWord, trailerOf, lengthFits, markFits, limitsFit, distancesFit, trailerAnswer, layoutOf}
+use Rattle.sheets.specs.Lines.{lineWord, lineOf, judgmentOf, premisesOf, citedBy, below, subjectsFit, premisesFit, ruleFits, numbersFit, lineFits, lineAt, statedAt, lineFollows?, checkLinesFrom, checkLines}
+use Rattle.sheets.specs.Admission.{afterLines, afterContexts, afterTerms, afterLayout, admitOf, workFrom, workAfter}
+use Rattle.sheets.specs.Cases.{bytesOf, wordsOfS, countOfLines, wordOfLine, variableAlone, applied, doubling, doubledSizes, answered, expected, nines, sizesOfS, cases}
+
+pub cases-hold : map answered cases ≡ map expected cases
+unfolding tagOf arity used shape wordAt word tag termTo term usedLimit limit
+    rowOf fitsRow holdsRow repeatedBelow sumTo rowSize sizeAnswer rowAnswer checkFrom checkTerms
+    formOf premiseCount instance? stated plainJudgment
+    parentOf typeOf contextTo context contextFits holdsContext heldWithin repeatedContext rightContext checkContextsFrom checkContexts
+    contextsIn linesIn trailerWord trailerOf lengthFits markFits limitsFit distancesFit trailerAnswer layoutOf
+    lineWord lineOf judgmentOf premisesOf citedBy below subjectsFit premisesFit ruleFits numbersFit lineFits lineAt statedAt lineFollows? checkLinesFrom checkLines
+    afterLines afterContexts afterTerms afterLayout admitOf workFrom workAfter
+    bytesOf wordsOfS countOfLines wordOfLine variableAlone applied doubling doubledSizes nines sizesOfS cases
+cases-hold = refl

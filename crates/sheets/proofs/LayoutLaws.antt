@@ -1,0 +1,242 @@
+-- Numbers 1 to 4 answer for their declarative reading.
+-- Assumes nothing.
+use mathlib.Core.Path.{_≡_, refl, sym, _∙_, ap, subst}
+use mathlib.Core.Logic.{_↔_, _⊎_, inl, inr}
+use mathlib.Core.Bool.{Bool, true, false, _&&_}
+use mathlib.Core.List.{List}
+use Prim.Native.Nat.{ℕ, _+_, _-_, _≤_, _<_}
+use native.Mathlib.Omega.{arith}
+use lib.Dec.{leb, eqb}
+use lib.ListN.{length, take, drop, length-drop}
+use lib.Seq.{take-all}
+use borrow.Author.Tests.{leb-true, leb-false, le-leb, lt-leb}
+use Rattle.terms.specs.Decides.{Decides}
+use Rattle.terms.specs.Words.{wordAt}
+use Rattle.terms.proofs.Tests.{refuted, decides-both}
+use Rattle.sheets.specs.declared.layout.Trailer.{Trailer}
+use Rattle.sheets.specs.declared.layout.Layout.{Layout}
+use Rattle.sheets.specs.declared.layout.Layout.the-variants.{Counted, Wrong}
+use Rattle.sheets.specs.Layout.{trailerWord, trailerOf, toLines, toContexts, toTerms, lengthFits, markFits, limitsFit, distancesFit, trailerAnswer, layoutOf}
+use Rattle.sheets.specs.Good.{trailerFor, LaidOut, RightLength, Marked, LayoutFault, wrongLength, notMarked, disagreeing, shortWork}
+use Rattle.sheets.proofs.TestLaws.{either, refutes, says-le, says-eq}
+
+pub length-says : (n : ℕ) → Decides (lengthFits n) ((16 ≤ n) × (n ≤ 52240))
+unfolding lengthFits
+length-says n = decides-both (leb 16 n) (leb n 52240) (says-le 16 n) (says-le n 52240)
+
+pub mark-says : (t : Trailer) → Decides (markFits t) (Marked t)
+unfolding markFits
+mark-says t = decides-both (eqb (t .mark) 0x4C44) (eqb (t .edition) 1) (says-eq (t .mark) 0x4C44) (says-eq (t .edition) 1)
+
+-- number 3, limits
+abbrev Limited : Trailer → Type 0
+Limited t = ((t .terms ≤ 3072) × (t .contexts ≤ 256)) × (t .lines ≤ 1024)
+
+pub limits-say : (t : Trailer) → Decides (limitsFit t) (Limited t)
+unfolding limitsFit
+limits-say t =
+    decides-both (leb (t .terms) 3072 && leb (t .contexts) 256) (leb (t .lines) 1024)
+    (decides-both (leb (t .terms) 3072) (leb (t .contexts) 256) (says-le (t .terms) 3072) (says-le (t .contexts) 256))
+    (says-le (t .lines) 1024)
+
+-- number 3, distances and length
+abbrev Agreeing : Trailer → ℕ → Type 0
+Agreeing t n =
+    (((t .first ≡ toTerms (t .terms) (t .contexts) (t .lines)) × (t .second ≡ toContexts (t .contexts) (t .lines)))
+    × (t .third ≡ toLines (t .lines))) × (n ≡ toTerms (t .terms) (t .contexts) (t .lines) + 16)
+
+pub distances-say : (t : Trailer) (n : ℕ) → Decides (distancesFit t n) (Agreeing t n)
+unfolding distancesFit
+distances-say t n =
+    decides-both
+    (eqb (t .first) (toTerms (t .terms) (t .contexts) (t .lines)) && eqb (t .second) (toContexts (t .contexts) (t .lines)) && eqb (t .third) (toLines (t .lines)))
+    (eqb n (toTerms (t .terms) (t .contexts) (t .lines) + 16))
+    (decides-both
+    (eqb (t .first) (toTerms (t .terms) (t .contexts) (t .lines)) && eqb (t .second) (toContexts (t .contexts) (t .lines)))
+    (eqb (t .third) (toLines (t .lines)))
+    (decides-both
+    (eqb (t .first) (toTerms (t .terms) (t .contexts) (t .lines)))
+    (eqb (t .second) (toContexts (t .contexts) (t .lines)))
+    (says-eq (t .first) _) (says-eq (t .second) _)) (says-eq (t .third) _))
+    (says-eq n _)
+
+-- `read_trailer`: the words are read from the end of the sheet, as a part of it
+module _ (bytes : List ℕ) where
+  abbrev ending : List ℕ
+  ending = take (length bytes - (length bytes - 16)) (drop (length bytes - 16) bytes)
+
+  at-end : (i r : ℕ) → r ≡ wordAt ending i → r ≡ trailerWord bytes i
+  unfolding trailerWord
+  at-end i r e = e ∙ ap (λ l. wordAt l i) (take-all (length bytes - (length bytes - 16)) (drop (length bytes - 16) bytes) (omega (arith, length-drop (length bytes - 16) bytes)))
+
+  pub trailer-read : (a b c d e f g h : ℕ) → a ≡ wordAt ending 0 → b ≡ wordAt ending 1 → c ≡ wordAt ending 2 → d ≡ wordAt ending 3
+      → e ≡ wordAt ending 4 → f ≡ wordAt ending 5 → g ≡ wordAt ending 6 → h ≡ wordAt ending 7
+      → _≡_ {A = Trailer} (record { terms = a; contexts = b; lines = c; edition = d; first = e; second = f; third = g; mark = h }) (trailerOf bytes)
+  unfolding trailerOf
+  trailer-read a b c d e f g h p q r s t u v w =
+      λ i. record {
+        terms = at-end 0 a p i;
+        contexts = at-end 1 b q i;
+        lines = at-end 2 c r i;
+        edition = at-end 3 d s i;
+        first = at-end 4 e t i;
+        second = at-end 5 f u i;
+        third = at-end 6 g v i;
+        mark = at-end 7 h w i;
+      }
+
+-- the ways out of numbers 2, 3 and 4
+module _ (t : Trailer) (n work : ℕ) where
+  pub trailer-2 : markFits t ≡ false → trailerAnswer t n work ≡ Wrong 2
+  unfolding trailerAnswer
+  trailer-2 e = rw (e, trailerAnswer)
+
+  module _ (m : markFits t ≡ true) where
+    pub trailer-limits : limitsFit t ≡ false → trailerAnswer t n work ≡ Wrong 3
+    unfolding trailerAnswer
+    trailer-limits e = rw (m, e, trailerAnswer)
+
+    module _ (l : limitsFit t ≡ true) where
+      pub trailer-distances : distancesFit t n ≡ false → trailerAnswer t n work ≡ Wrong 3
+      unfolding trailerAnswer
+      trailer-distances e = rw (m, l, e, trailerAnswer)
+
+      module _ (d : distancesFit t n ≡ true) where
+        pub trailer-4 : work < t .terms → trailerAnswer t n work ≡ Wrong 4
+        unfolding trailerAnswer
+        trailer-4 h = rw (m, l, d, lt-leb (t .terms) work h, trailerAnswer)
+
+        pub trailer-counted : t .terms ≤ work → trailerAnswer t n work ≡ Counted (t .terms) (t .contexts) (t .lines)
+        unfolding trailerAnswer
+        trailer-counted h = rw (m, l, d, le-leb (t .terms) work h, trailerAnswer)
+
+module _ (bytes : List ℕ) (work : ℕ) where
+  pub layout-1 : lengthFits (length bytes) ≡ false → layoutOf bytes work ≡ Wrong 1
+  unfolding layoutOf
+  layout-1 e = rw (e, layoutOf)
+
+  -- where t is the trailer and a what it answers
+  pub layout-read : (t : Trailer) (a : Layout) → lengthFits (length bytes) ≡ true → t ≡ trailerOf bytes → a ≡ trailerAnswer t (length bytes) work → a ≡ layoutOf bytes work
+  unfolding layoutOf
+  layout-read t a h e f = f ∙ ap (λ u. trailerAnswer u (length bytes) work) e ∙ sym (rw (h, layoutOf))
+
+  pub layout-rest : lengthFits (length bytes) ≡ true → layoutOf bytes work ≡ trailerAnswer (trailerOf bytes) (length bytes) work
+  unfolding layoutOf
+  layout-rest e = rw (e, layoutOf)
+
+module _ (bytes : List ℕ) where
+  -- numbers 1, 2 and 3 pass exactly if the sheet is laid out with the counts that its trailer gives
+  laid-passes : (T C L : ℕ) → LaidOut bytes T C L → RightLength bytes × Marked (trailerOf bytes) × Limited (trailerOf bytes) × Agreeing (trailerOf bytes) (length bytes)
+  unfolding trailerFor
+  laid-passes T C L h =
+      subst (λ t. RightLength bytes × Marked t × Limited t × Agreeing t (length bytes)) (sym (h .trailer)) (
+        (omega (arith, h .long, h .fewTerms, h .fewContexts, h .fewLines), omega (arith, h .long, h .fewTerms, h .fewContexts, h .fewLines)),
+        (refl, refl),
+        ((h .fewTerms, h .fewContexts), h .fewLines),
+        (((refl, refl), refl), h .long),
+      )
+
+  passes-laid : Marked (trailerOf bytes) → Limited (trailerOf bytes) → Agreeing (trailerOf bytes) (length bytes)
+      → LaidOut bytes (trailerOf bytes .terms) (trailerOf bytes .contexts) (trailerOf bytes .lines)
+  unfolding trailerFor
+  passes-laid m l a =
+      record {
+        trailer = λ i. record {
+          terms = trailerOf bytes .terms;
+          contexts = trailerOf bytes .contexts;
+          lines = trailerOf bytes .lines;
+          edition = m .1 i;
+          first = a .0 .0 .0 i;
+          second = a .0 .0 .1 i;
+          third = a .0 .1 i;
+          mark = m .0 i;
+        };
+        fewTerms = l .0 .0;
+        fewContexts = l .0 .1;
+        fewLines = l .1;
+        long = a .1;
+      }
+
+  module _ (work : ℕ) where
+    -- what an answer means
+    pub data LayoutMeans : Layout → Type 0 where
+      counted : {T C L : ℕ} → LaidOut bytes T C L → T ≤ work → LayoutMeans (Counted T C L)
+      wrong : {number : ℕ} → LayoutFault bytes work number → LayoutMeans (Wrong number)
+
+    abbrev Either : Bool → Type 0
+    Either b = (b ≡ true) ⊎ (b ≡ false)
+
+    module _ (h : lengthFits (length bytes) ≡ true) where
+      means : {A : Layout} → trailerAnswer (trailerOf bytes) (length bytes) work ≡ A → LayoutMeans A → LayoutMeans (layoutOf bytes work)
+      means e a = subst LayoutMeans (sym (layout-rest bytes work h ∙ e)) a
+
+      module _ (m : markFits (trailerOf bytes) ≡ true) where
+        disagree : (Limited (trailerOf bytes) → Agreeing (trailerOf bytes) (length bytes) → ⊥) → LayoutMeans (Wrong 3)
+        disagree no-way =
+            wrong (disagreeing (length-says _ .0 h) (mark-says _ .0 m) (λ T C L laid. let p = laid-passes T C L laid in no-way (p .2) (p .3)))
+
+        module _ (l : limitsFit (trailerOf bytes) ≡ true) where
+          at-work : distancesFit (trailerOf bytes) (length bytes) ≡ true → Either (leb (trailerOf bytes .terms) work) → LayoutMeans (layoutOf bytes work)
+          at-work d (inl e) =
+              let k = leb-true _ _ e in
+              means (trailer-counted _ _ _ m l d k) (counted (passes-laid (mark-says _ .0 m) (limits-say _ .0 l) (distances-say _ _ .0 d)) k)
+          at-work d (inr e) =
+              let k = leb-false _ _ e in
+              means (trailer-4 _ _ _ m l d k) (wrong (shortWork _ _ _ (passes-laid (mark-says _ .0 m) (limits-say _ .0 l) (distances-say _ _ .0 d)) k))
+
+          at-distances : Either (distancesFit (trailerOf bytes) (length bytes)) → LayoutMeans (layoutOf bytes work)
+          at-distances (inl d) = at-work d (either _)
+          at-distances (inr d) = means (trailer-distances _ _ _ m l d) (disagree (λ x y. refuted _ (distances-say _ _) d y))
+
+        at-limits : Either (limitsFit (trailerOf bytes)) → LayoutMeans (layoutOf bytes work)
+        at-limits (inl l) = at-distances l (either _)
+        at-limits (inr l) = means (trailer-limits _ _ _ m l) (disagree (λ x y. refuted _ (limits-say _) l x))
+
+      at-mark : Either (markFits (trailerOf bytes)) → LayoutMeans (layoutOf bytes work)
+      at-mark (inl m) = at-limits m (either _)
+      at-mark (inr m) = means (trailer-2 _ _ _ m) (wrong (notMarked (length-says _ .0 h) (refuted _ (mark-says _) m)))
+
+    at-length : Either (lengthFits (length bytes)) → LayoutMeans (layoutOf bytes work)
+    at-length (inl h) = at-mark h (either _)
+    at-length (inr h) = subst LayoutMeans (sym (layout-1 bytes work h)) (wrong (wrongLength (refuted _ (length-says _) h)))
+
+    pub layout-means : LayoutMeans (layoutOf bytes work)
+    layout-means = at-length (either _)
+
+    -- the counts are answered exactly if the sheet is laid out with them and the work buffer has that many words
+    pub counted-is : (T C L : ℕ) → (layoutOf bytes work ≡ Counted T C L) ↔ (LaidOut bytes T C L × (T ≤ work))
+    unfolding trailerFor
+    counted-is T C L = (λ e. from (subst LayoutMeans e layout-means), λ h. to (h .0) (h .1))
+      where
+        from : LayoutMeans (Counted T C L) → LaidOut bytes T C L × (T ≤ work)
+        from (counted h k) = (h, k)
+
+        to : LaidOut bytes T C L → T ≤ work → layoutOf bytes work ≡ Counted T C L
+        to h k =
+            let p = laid-passes T C L h in
+            layout-rest bytes work (length-says _ .1 (p .0))
+            ∙ trailer-counted _ _ _ (mark-says _ .1 (p .1)) (limits-say _ .1 (p .2)) (distances-say _ _ .1 (p .3)) (subst (λ t. t .terms ≤ work) (sym (h .trailer)) k)
+            ∙ ap (λ t. Counted (t .terms) (t .contexts) (t .lines)) (h .trailer)
+
+    -- and a number exactly if its check is the first to fail
+    pub wrong-is : (number : ℕ) → (layoutOf bytes work ≡ Wrong number) ↔ LayoutFault bytes work number
+    unfolding trailerFor
+    wrong-is number = (λ e. from (subst LayoutMeans e layout-means), to)
+      where
+        from : {k : ℕ} → LayoutMeans (Wrong k) → LayoutFault bytes work k
+        from (wrong f) = f
+
+        counts : RightLength bytes → Marked (trailerOf bytes) → ((T C L : ℕ) → LaidOut bytes T C L → ⊥)
+            → Either (limitsFit (trailerOf bytes)) → Either (distancesFit (trailerOf bytes) (length bytes)) → trailerAnswer (trailerOf bytes) (length bytes) work ≡ Wrong 3
+        counts r m f (inl l) (inl d) = absurd (f _ _ _ (passes-laid m (limits-say _ .0 l) (distances-say _ _ .0 d)))
+        counts r m f (inl l) (inr d) = trailer-distances _ _ _ (mark-says _ .1 m) l d
+        counts r m f (inr l) d = trailer-limits _ _ _ (mark-says _ .1 m) l
+
+        to : {k : ℕ} → LayoutFault bytes work k → layoutOf bytes work ≡ Wrong k
+        to (wrongLength f) = layout-1 bytes work (refutes _ (length-says _) f)
+        to (notMarked r f) = layout-rest bytes work (length-says _ .1 r) ∙ trailer-2 _ _ _ (refutes _ (mark-says _) f)
+        to (disagreeing r m f) = layout-rest bytes work (length-says _ .1 r) ∙ counts r m f (either _) (either _)
+        to (shortWork T C L h k) =
+            let p = laid-passes T C L h in
+            layout-rest bytes work (length-says _ .1 (p .0))
+            ∙ trailer-4 _ _ _ (mark-says _ .1 (p .1)) (limits-say _ .1 (p .2)) (distances-say _ _ .1 (p .3)) (subst (λ t. work < t .terms) (sym (h .trailer)) k)

@@ -1,0 +1,9 @@
+pub mod CasesHold
+pub mod TestLaws
+pub mod LayoutLaws
+pub mod LineLaws
+pub mod LineCheckLaws
+pub mod AdmissionLaws
+pub mod FindingLaws
+pub mod AnswerLaws
+pub mod LineAnswers

@@ -1,0 +1,20 @@
+use Rattle.sheets.specs.Lines.{subjectsFit}
+use borrow.Author.Needs.{needs}
+use Rattle.sheets.proofs.lines.subjects_fit.Statement.{statement}
+use Rattle.sheets.proofs.lines.subjects_fit.Tie as tie
+
+bound-requires : tie.Need-bound-requires
+bound-requires c κs = search needs
+
+bound-requires-2 : tie.Need-bound-requires-2
+bound-requires-2 c κs = search needs
+
+bound-requires-3 : tie.Need-bound-requires-3
+bound-requires-3 c κs = search needs
+
+returns : tie.Need-returns
+unfolding subjectsFit
+returns c = cc
+
+pub subjects-fit-spec : {M : Type 1} → statement M
+subjects-fit-spec = tie.close (tie.spec bound-requires bound-requires-2 bound-requires-3 returns)

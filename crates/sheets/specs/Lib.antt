@@ -1,0 +1,6 @@
+pub mod Layout
+pub mod Lines
+pub mod Admission
+pub mod Finding
+pub mod Good
+pub mod Cases

@@ -1,0 +1,108 @@
+-- The lines and their check, numbers 9 and 10: document 01, "The sheet" and "What the desk says". A line is ten words: form, rule, context,
+-- three subjects, four premises. Lines count from 0.
+use mathlib.Core.Bool.{Bool, true, false, _&&_}
+use mathlib.Core.List.{List, [], _∷_, map}
+use Prim.Native.Nat.{ℕ, zero, suc, _+_, _*_}
+use lib.Dec.{leb, ltb, eqb}
+use lib.ListN.{take}
+use Rattle.terms.specs.Words.{wordAt}
+use Rattle.rules.specs.Judgment.{Judgment}
+use Rattle.rules.specs.RuleTable.{formOf, premiseCount}
+use Rattle.rules.specs.Instance.{Instance}
+use Rattle.rules.specs.Decision.{instance?}
+use Rattle.rules.specs.Stated.{stated}
+use Rattle.rules.specs.declared.judgments.LineJudgment.{LineJudgment}
+use Rattle.sheets.specs.declared.lines.Line.{Line}
+use Rattle.sheets.specs.declared.lines.LinesAnswer.{LinesAnswer}
+use Rattle.sheets.specs.declared.lines.LinesAnswer.the-variants.{Sound, Faulty}
+use Rattle.sheets.specs.Layout.{contextsIn, linesIn}
+
+-- word j of line n, where the bytes begin with line 0
+unfoldable pub lineWord : List ℕ → ℕ → ℕ → ℕ
+lineWord lines n j = wordAt lines (10 * n + j)
+
+unfoldable pub lineOf : List ℕ → ℕ → Line
+lineOf lines n =
+    record {
+      form = lineWord lines n 0;
+      rule = lineWord lines n 1;
+      context = lineWord lines n 2;
+      s1 = lineWord lines n 3;
+      s2 = lineWord lines n 4;
+      s3 = lineWord lines n 5;
+      p0 = lineWord lines n 6;
+      p1 = lineWord lines n 7;
+      p2 = lineWord lines n 8;
+      p3 = lineWord lines n 9;
+    }
+
+-- what a line states, as numbers; the one place where its form word is read
+unfoldable pub judgmentOf : Line → LineJudgment
+judgmentOf l = record { form = l .form; context = l .context; s1 = l .s1; s2 = l .s2; s3 = l .s3 }
+
+-- the four premise words, in the rule's order
+unfoldable pub premisesOf : Line → List ℕ
+premisesOf l = l .p0 ∷ l .p1 ∷ l .p2 ∷ l .p3 ∷ []
+
+-- the lines that a line cites: as many premises as its rule has
+unfoldable pub citedBy : Line → List ℕ
+citedBy l = take (premiseCount (l .rule)) (premisesOf l)
+
+-- what a number is below that is used, and below the given bound; an unused one is 0
+unfoldable pub below : Bool → ℕ → ℕ
+below true bound = bound
+below false bound = 1
+
+-- number 9, subjects: form 0 uses none, 1 uses s1 and s3, 2 uses all, 3 uses s1 and s2; used ones are terms
+unfoldable pub subjectsFit : LineJudgment → ℕ → Bool
+unfolding below
+subjectsFit j terms =
+    ltb (j .s1) (below (leb 1 (j .form)) terms) && ltb (j .s2) (below (leb 2 (j .form)) terms)
+    && ltb (j .s3) (below (leb 1 (j .form) && leb (j .form) 2) terms)
+
+-- number 9, premises: the first count are used and are earlier lines than line n
+unfoldable pub premisesFit : Line → ℕ → ℕ → Bool
+unfolding below
+premisesFit l count n =
+    ltb (l .p0) (below (ltb 0 count) n) && ltb (l .p1) (below (ltb 1 count) n) && ltb (l .p2) (below (ltb 2 count) n)
+    && ltb (l .p3) (below (ltb 3 count) n)
+
+-- number 9, rule and form: a rule that is there, and its form
+unfoldable pub ruleFits : Line → Bool
+ruleFits l = leb 1 (l .rule) && leb (l .rule) 43 && eqb (judgmentOf l .form) (formOf (l .rule))
+
+-- number 9, the numbers of line n, over the given numbers of terms and of contexts
+unfoldable pub numbersFit : Line → ℕ → ℕ → ℕ → Bool
+numbersFit l n terms contexts = leb (l .context) contexts && subjectsFit (judgmentOf l) terms && premisesFit l (premiseCount (l .rule)) n
+
+unfoldable pub lineFits : Line → ℕ → ℕ → ℕ → Bool
+lineFits l n terms contexts = ruleFits l && numbersFit l n terms contexts
+
+module _ (bytes : List ℕ) (terms contexts : ℕ) where
+  unfoldable pub lineAt : ℕ → Line
+  lineAt n = lineOf (linesIn bytes terms contexts) n
+
+  -- a line's judgment, read as plain terms ("Derivations that fit")
+  unfoldable pub statedAt : ℕ → Judgment
+  statedAt n = stated bytes (contextsIn bytes terms) (judgmentOf (lineAt n))
+
+  -- number 10: the judgment of line n is an instance of its rule over the judgments of the lines that it cites
+  unfoldable pub LineFollows : ℕ → Type 0
+  LineFollows n = Instance (lineAt n .rule) (map statedAt (citedBy (lineAt n))) (statedAt n)
+
+  unfoldable pub lineFollows? : (n : ℕ) → Dec (LineFollows n)
+  unfolding LineFollows instance?
+  lineFollows? n = instance? (lineAt n .rule) (map statedAt (citedBy (lineAt n))) (statedAt n)
+
+  -- the check of the next lines, as many as the first argument says, from line n on: 9, then 10, at each
+  unfoldable pub checkLinesFrom : ℕ → ℕ → LinesAnswer
+  checkLinesFrom zero n = Sound
+  checkLinesFrom (suc more) n =
+      elim (lineFits (lineAt n) n terms contexts) [
+        | false ↦ Faulty 9 n
+        | true ↦
+            elim (lineFollows? n) [ no _ ↦ Faulty 10 n | yes _ ↦ checkLinesFrom more (suc n) ]
+      ]
+
+  unfoldable pub checkLines : ℕ → LinesAnswer
+  checkLines count = checkLinesFrom count 0

@@ -1,0 +1,113 @@
+// The trailer, and what it says of the tables.
+use terms::words::word_at;
+ghost use mathlib.Core.Path.{_≡_};
+ghost use mathlib.Core.Bool.{true};
+ghost use Prim.Native.Nat.{_≤_};
+ghost use lib.ListN.{length};
+ghost use Rattle.sheets.specs.Layout.{trailerOf, markFits, limitsFit, distancesFit, trailerAnswer, layoutOf};
+
+// The eight words of a trailer. The three distances go back from its first byte to the terms, the contexts and the lines.
+pub struct Trailer {
+    pub terms: usize,
+    pub contexts: usize,
+    pub lines: usize,
+    pub edition: usize,
+    pub first: usize,
+    pub second: usize,
+    pub third: usize,
+    pub mark: usize,
+}
+
+// What the layout shows: how many rows each table has, or the first of numbers 1 to 4 that is broken.
+pub enum Layout {
+    Counted {
+        terms: usize,
+        contexts: usize,
+        lines: usize,
+    },
+    Wrong {
+        number: usize,
+    },
+}
+
+// The trailer of a sheet, its last 16 bytes.
+fn read_trailer(sheet: &[u8]) -> Trailer
+    requires { ⌜ 16 ≤ length (now sheet) ⌝ }
+    ensures { λ r. ⌜ r ≡ trailerOf (now (sheet .entry)) ⌝ }
+{
+    let start = sheet.len() - 16;
+    let words = &sheet[start..];
+    Trailer {
+        terms: word_at(words, 0),
+        contexts: word_at(words, 1),
+        lines: word_at(words, 2),
+        edition: word_at(words, 3),
+        first: word_at(words, 4),
+        second: word_at(words, 5),
+        third: word_at(words, 6),
+        mark: word_at(words, 7),
+    }
+}
+
+// Number 2: the mark, and an edition that is defined.
+fn mark_fits(t: Trailer) -> bool
+    ensures { λ r. ⌜ r ≡ markFits t ⌝ }
+{
+    (t.mark == 0x4C44) & (t.edition == 1)
+}
+
+// Number 3: the counts keep their limits.
+fn limits_fit(t: Trailer) -> bool
+    ensures { λ r. ⌜ r ≡ limitsFit t ⌝ }
+{
+    (t.terms <= 3072) & (t.contexts <= 256) & (t.lines <= 1024)
+}
+
+// Number 3: the distances and the length `n` agree with the counts.
+fn distances_fit(t: Trailer, n: usize) -> bool
+    requires { ⌜ limitsFit t ≡ true ⌝ }
+    ensures { λ r. ⌜ r ≡ distancesFit t n ⌝ }
+{
+    let lines = 20 * t.lines;
+    let contexts = 4 * t.contexts;
+    let terms = 10 * t.terms + contexts + lines;
+    (t.first == terms) & (t.second == contexts + lines) & (t.third == lines) & (n == terms + 16)
+}
+
+// Numbers 2 to 4, for a sheet of `n` bytes and a work buffer of `work` words.
+fn trailer_answer(t: Trailer, n: usize, work: usize) -> Layout
+    ensures { λ r. ⌜ r ≡ trailerAnswer t n work ⌝ }
+{
+    if mark_fits(t) {
+        if limits_fit(t) {
+            if distances_fit(t, n) {
+                if work < t.terms {
+                    return Layout::Wrong { number: 4 };
+                }
+                Layout::Counted {
+                    terms: t.terms,
+                    contexts: t.contexts,
+                    lines: t.lines,
+                }
+            } else {
+                Layout::Wrong { number: 3 }
+            }
+        } else {
+            Layout::Wrong { number: 3 }
+        }
+    } else {
+        Layout::Wrong { number: 2 }
+    }
+}
+
+// The counts of a sheet, or the first of numbers 1 to 4 that is broken.
+pub fn read_layout(sheet: &[u8], work: usize) -> Layout
+    ensures { λ r. ⌜ r ≡ layoutOf (now (sheet .entry)) work ⌝ }
+{
+    let n = sheet.len();
+    if (16 <= n) & (n <= 52240) {
+        trailer_answer(read_trailer(sheet), n, work)
+    } else {
+        Layout::Wrong { number: 1 }
+    }
+}

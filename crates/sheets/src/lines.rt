@@ -1,0 +1,176 @@
+// Lines: ten words each.
+use rules::instances::is_instance;
+use rules::judgments::LineJudgment;
+use rules::table::conclusion_form;
+use rules::table::premise_count;
+use terms::words::word_at;
+ghost use mathlib.Core.Path.{_≡_};
+ghost use Prim.Native.Nat.{_+_, _*_, _<_, _≤_};
+ghost use lib.ListN.{length};
+ghost use Rattle.terms.specs.Decides.{Decides};
+ghost use Rattle.rules.specs.RuleTable.{formOf, premiseCount};
+ghost use Rattle.sheets.specs.Lines.{lineWord, lineOf, judgmentOf, below, subjectsFit, premisesFit, ruleFits, numbersFit, lineFits, lineAt, LineFollows, checkLines};
+ghost use Rattle.sheets.specs.Good.{LineOk, Tabled, Reached};
+
+// The words of a line.
+pub struct Line {
+    pub form: usize,
+    pub rule: usize,
+    pub context: usize,
+    pub s1: usize,
+    pub s2: usize,
+    pub s3: usize,
+    pub p0: usize,
+    pub p1: usize,
+    pub p2: usize,
+    pub p3: usize,
+}
+
+// What the check of the lines finds: every line is right, or the first fault and its line.
+pub enum LinesAnswer {
+    Sound,
+    Faulty { number: usize, place: usize },
+}
+
+// Word `j` of line `n`.
+fn line_word(lines: &[u8], n: usize, j: usize) -> usize
+    requires { ⌜ (20 * n + 20 ≤ length (now lines)) × (j < 10) ⌝ }
+    ensures { λ r. ⌜ r ≡ lineWord (now (lines .entry)) n j ⌝ }
+{
+    word_at(lines, 10 * n + j)
+}
+
+// Line `n`, its words assembled once.
+pub fn read_line(lines: &[u8], n: usize) -> Line
+    requires { ⌜ 20 * n + 20 ≤ length (now lines) ⌝ }
+    ensures { λ r. ⌜ r ≡ lineOf (now (lines .entry)) n ⌝ }
+{
+    Line {
+        form: line_word(lines, n, 0),
+        rule: line_word(lines, n, 1),
+        context: line_word(lines, n, 2),
+        s1: line_word(lines, n, 3),
+        s2: line_word(lines, n, 4),
+        s3: line_word(lines, n, 5),
+        p0: line_word(lines, n, 6),
+        p1: line_word(lines, n, 7),
+        p2: line_word(lines, n, 8),
+        p3: line_word(lines, n, 9),
+    }
+}
+
+// What a line states.
+pub fn judgment_of(line: Line) -> LineJudgment
+    ensures { λ r. ⌜ r ≡ judgmentOf line ⌝ }
+{
+    LineJudgment {
+        form: line.form,
+        context: line.context,
+        s1: line.s1,
+        s2: line.s2,
+        s3: line.s3,
+    }
+}
+
+// What a number is below: the bound if it is used, else 1.
+fn bound(used: bool, n: usize) -> usize
+    ensures { λ r. ⌜ r ≡ below used n ⌝ }
+{
+    if used { n } else { 1 }
+}
+
+// Number 9, the subjects, for the given number of terms.
+fn subjects_fit(j: LineJudgment, terms: usize) -> bool
+    ensures { λ r. ⌜ r ≡ subjectsFit j terms ⌝ }
+{
+    let form = j.form;
+    (j.s1 < bound(1 <= form, terms))
+        & (j.s2 < bound(2 <= form, terms))
+        & (j.s3 < bound((1 <= form) & (form <= 2), terms))
+}
+
+// Number 9, the premises of line `n`, of which the first `count` are used.
+fn premises_fit(line: Line, count: usize, n: usize) -> bool
+    ensures { λ r. ⌜ r ≡ premisesFit line count n ⌝ }
+{
+    (line.p0 < bound(0 < count, n))
+        & (line.p1 < bound(1 < count, n))
+        & (line.p2 < bound(2 < count, n))
+        & (line.p3 < bound(3 < count, n))
+}
+
+// Number 9, the rule and its form, which is the one given.
+fn rule_fits(line: Line, form: usize) -> bool
+    requires { ⌜ form ≡ formOf (line .rule) ⌝ }
+    ensures { λ r. ⌜ r ≡ ruleFits line ⌝ }
+{
+    let rule = line.rule;
+    (1 <= rule) & (rule <= 43) & (judgment_of(line).form == form)
+}
+
+// Number 9, the numbers of line `n`, whose rule has `count` premises.
+fn numbers_fit(line: Line, count: usize, n: usize, terms: usize, contexts: usize) -> bool
+    requires { ⌜ count ≡ premiseCount (line .rule) ⌝ }
+    ensures { λ r. ⌜ r ≡ numbersFit line n terms contexts ⌝ }
+{
+    (line.context <= contexts)
+        & subjects_fit(judgment_of(line), terms)
+        & premises_fit(line, count, n)
+}
+
+// Number 9 at line `n`, over the given numbers of terms and of contexts.
+fn line_fits(line: Line, n: usize, terms: usize, contexts: usize) -> bool
+    ensures { λ r. ⌜ r ≡ lineFits line n terms contexts ⌝ }
+{
+    let rule = line.rule;
+    if rule_fits(line, conclusion_form(rule)) {
+        numbers_fit(line, premise_count(rule), n, terms, contexts)
+    } else {
+        false
+    }
+}
+
+// Number 10 at line `n`. An unused premise word is 0, and line 0 is there; what it states is not looked at.
+fn line_follows(sheet: &[u8], terms: usize, contexts: usize, line: Line, n: usize) -> bool
+    requires { ⌜ Reached (now sheet) terms contexts n × (line ≡ lineAt (now sheet) terms contexts n) × LineOk line n terms contexts ⌝ }
+    ensures { λ r. ⌜ Decides r (LineFollows (now (sheet .entry)) terms contexts n) ⌝ }
+{
+    let after_terms = 10 * terms;
+    let after_contexts = 10 * terms + 4 * contexts;
+    let rows = &sheet[after_terms..];
+    let lines = &sheet[after_contexts..];
+    let p = judgment_of(read_line(lines, line.p0));
+    let q = judgment_of(read_line(lines, line.p1));
+    let r = judgment_of(read_line(lines, line.p2));
+    let s = judgment_of(read_line(lines, line.p3));
+    is_instance(sheet, rows, line.rule, judgment_of(line), p, q, r, s)
+}
+
+// Checks the first `count` lines in order: 9, then 10, at each.
+pub fn check_lines(sheet: &[u8], terms: usize, contexts: usize, count: usize) -> LinesAnswer
+    requires { ⌜ Tabled (now sheet) terms contexts count ⌝ }
+    ensures { λ r. ⌜ r ≡ checkLines (now (sheet .entry)) terms contexts count ⌝ }
+{
+    let start = 10 * terms + 4 * contexts;
+    let lines = &sheet[start..];
+    let mut n = 0;
+    while n < count {
+        let line = read_line(lines, n);
+        if line_fits(line, n, terms, contexts) {
+            if line_follows(sheet, terms, contexts, line, n) {
+                n += 1;
+            } else {
+                return LinesAnswer::Faulty {
+                    number: 10,
+                    place: n,
+                };
+            }
+        } else {
+            return LinesAnswer::Faulty {
+                number: 9,
+                place: n,
+            };
+        }
+    }
+    LinesAnswer::Sound
+}

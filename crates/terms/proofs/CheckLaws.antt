@@ -1,0 +1,95 @@
+-- What `row_answer` and `check_terms` answer, each way out, from what their callees answer.
+-- Assumes nothing.
+use mathlib.Core.Path.{_≡_, refl, sym, _∙_, ap, subst}
+use mathlib.Core.Bool.{Bool, true, false}
+use mathlib.Core.List.{List, [], _∷_, _++_}
+use Prim.Native.Nat.{ℕ, suc, _+_, _-_, _≤_, _<_}
+use native.Mathlib.Numerals.{add-one}
+use native.Mathlib.Omega.{arith}
+use lib.ListN.{length, take, drop, set, length-set, take-append-drop}
+use lib.Seq.{take-suc-set, drop-set-lt, drop-drop, length-take-le}
+use borrow.Author.Tests.{lt-ltb, le-ltb}
+use Rattle.terms.specs.Sizes.{rowOf, fitsRow, repeatedBelow, rowSize, sizeAnswer, rowAnswer, checkFrom, checkTerms, over}
+use Rattle.terms.specs.declared.rows.Row.{Row}
+use Rattle.terms.specs.declared.sizes.RowAnswer.the-variants.{Fault, Size}
+use Rattle.terms.specs.declared.sizes.TermsAnswer.{TermsAnswer}
+use Rattle.terms.specs.declared.sizes.TermsAnswer.the-variants.{Sound, Faulty}
+
+-- `row_answer`: r is the row, f says whether it fits
+module _ (bytes : List ℕ) (n : ℕ) (sizes : List ℕ) (r : Row) (f : Bool) (e : r ≡ rowOf bytes n) (g : f ≡ fitsRow r n) where
+  pub fitting : f ≡ true → fitsRow (rowOf bytes n) n ≡ true
+  fitting h = subst (λ s. fitsRow s n ≡ true) e (sym g ∙ h)
+
+  pub answer-5 : f ≡ false → Fault 5 ≡ rowAnswer bytes n sizes
+  unfolding rowAnswer
+  answer-5 h = rw (subst (λ s. fitsRow s n ≡ false) e (sym g ∙ h), rowAnswer)
+
+  module _ (h : f ≡ true) (q : Bool) (k : q ≡ repeatedBelow bytes r n) where
+    pub answer-6 : q ≡ true → Fault 6 ≡ rowAnswer bytes n sizes
+    unfolding rowAnswer
+    answer-6 l = rw (fitting h, subst (λ s. repeatedBelow bytes s n ≡ true) e (sym k ∙ l), rowAnswer)
+
+    answer-sized : q ≡ false → sizeAnswer (rowSize bytes n sizes) ≡ rowAnswer bytes n sizes
+    unfolding rowAnswer
+    answer-sized l = rw (fitting h, subst (λ s. repeatedBelow bytes s n ≡ false) e (sym k ∙ l), rowAnswer)
+
+    module _ (l : q ≡ false) (size : ℕ) (m : size ≡ rowSize bytes n sizes) where
+      pub answer-7 : 65535 < size → Fault 7 ≡ rowAnswer bytes n sizes
+      unfolding sizeAnswer
+      answer-7 o = subst (λ s. Fault 7 ≡ sizeAnswer s) m (rw (lt-ltb 65535 size o, sizeAnswer)) ∙ answer-sized l
+
+      pub answer-size : size ≤ 65535 → Size size ≡ rowAnswer bytes n sizes
+      unfolding sizeAnswer
+      answer-size o = subst (λ s. Size size ≡ sizeAnswer s) m (rw (le-ltb 65535 size o, sizeAnswer)) ∙ answer-sized l
+
+-- `check_terms`: before row k the first k words of the buffer are the sizes so far, the rest is as it was,
+-- and the check of the remaining rows answers for the whole
+module _ (bytes : List ℕ) (count : ℕ) (before : List ℕ) where
+  pub record Reached (work : List ℕ) (k : ℕ) : Type 0 where
+    pub within : k ≤ count
+    pub long : length work ≡ length before
+    pub rest : drop k work ≡ drop k before
+    pub future : checkFrom (count - k) bytes k (take k work) ≡ checkTerms bytes count
+
+  pub reached-start : Reached before 0
+  unfolding checkTerms
+  reached-start = record { within = omega arith; long = refl; rest = refl; future = ap (λ m. checkFrom m bytes 0 []) (omega arith) }
+
+  module _ (room : count ≤ length before) (work : List ℕ) (k : ℕ) (at : Reached work k) where
+    written : work ≡ over (take k work) before
+    written = sym (ap (λ m. take k work ++ drop m before) (length-take-le k work (omega (arith, at .within, at .long))) ∙ ap (λ l. take k work ++ l) (sym (at .rest)) ∙ take-append-drop k work)
+
+    -- the check of the remaining rows ends at once with these answers
+    ended : (a : TermsAnswer) → checkFrom (count - k) bytes k (take k work) ≡ record { answer = a; sizes = take k work }
+        → (a ≡ checkTerms bytes count .answer) × (work ≡ over (checkTerms bytes count .sizes) before)
+    ended a e =
+        let all = sym e ∙ at .future in
+        (ap (λ r. r .answer) all, written ∙ ap (λ r. over (r .sizes) before) all)
+
+    pub reached-end : count ≤ k → (Sound ≡ checkTerms bytes count .answer) × (work ≡ over (checkTerms bytes count .sizes) before)
+    unfolding checkFrom
+    reached-end h = ended Sound (ap (λ m. checkFrom m bytes k (take k work)) none)
+      where
+        none : count - k ≡ 0
+        none = omega arith
+
+    module _ (h : k < count) where
+      more : count - k ≡ suc (count - (k + 1))
+      more = omega arith
+
+      pub reached-fault : (number : ℕ) → Fault number ≡ rowAnswer bytes k (take k work) → (Faulty number k ≡ checkTerms bytes count .answer) × (work ≡ over (checkTerms bytes count .sizes) before)
+      unfolding checkFrom
+      reached-fault number e = ended (Faulty number k) (rw (more, ← e, checkFrom))
+
+      pub reached-next : (size : ℕ) → Size size ≡ rowAnswer bytes k (take k work) → Reached (set work k size) (k + 1)
+      unfolding checkFrom
+      reached-next size e =
+          record {
+            within = omega arith;
+            long = length-set work k size ∙ at .long;
+            rest = drop-set-lt (k + 1) work k size (omega arith) ∙ sym (drop-drop 1 k work) ∙ ap (drop 1) (at .rest) ∙ drop-drop 1 k before;
+            future = ap (checkFrom (count - (k + 1)) bytes (k + 1)) taken ∙ sym (rw (more, ← e, ← (add-one k), checkFrom)) ∙ at .future;
+          }
+        where
+          taken : take (k + 1) (set work k size) ≡ take k work ++ size ∷ []
+          taken = ap (λ m. take m (set work k size)) (add-one k) ∙ take-suc-set work k size (omega (arith, at .long))

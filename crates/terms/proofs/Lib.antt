@@ -1,0 +1,14 @@
+pub mod Tables
+pub mod Shape
+pub mod TagTables
+pub mod Tests
+pub mod RowLaws
+pub mod GoodRows
+pub mod CheckLaws
+pub mod TermLaws
+pub mod NodeLaws
+pub mod TableLaws
+pub mod WalkLaws
+pub mod ImageLaws
+pub mod SubstitutionLaws
+pub mod FreeIndexLaws

@@ -1,0 +1,68 @@
+-- What is put for free indices, described by rows: document 01, "Amended readings" (B[a], P[succ x], E-INDSUC).
+-- What is put need have no row: zero, first a, succ x and ind P a b c are described by the rows of their parts.
+use mathlib.Core.List.{List, [], _∷_}
+use Prim.Native.Nat.{ℕ, zero, suc}
+use Rattle.terms.specs.Term.{Term, var, first, zer, succ, ind}
+use Rattle.terms.specs.Substitution.{instantiate, outerSucc, instantiateBoth}
+use Rattle.terms.specs.Rows.{term}
+use Rattle.terms.specs.declared.images.Put.{Put}
+use Rattle.terms.specs.declared.images.Put.the-variants as put
+use Rattle.terms.specs.declared.images.Image.{Image}
+use Rattle.terms.specs.declared.images.Image.the-variants as image
+
+-- the substitution that a description means
+abbrev pub putting : List ℕ → Put → ℕ → Term
+putting bytes (put.Row a) = instantiate (term bytes a)
+putting bytes put.Zero = instantiate zer
+putting bytes (put.First a) = instantiate (first (term bytes a))
+putting bytes put.OuterSucc = outerSucc
+putting bytes (put.Both p a b c) = instantiateBoth (term bytes a) (ind (term bytes p) (term bytes a) (term bytes b) (term bytes c))
+
+-- the rows that it names
+abbrev pub putRows : Put → List ℕ
+putRows (put.Row a) = a ∷ []
+putRows put.Zero = []
+putRows (put.First a) = a ∷ []
+putRows put.OuterSucc = []
+putRows (put.Both p a b c) = p ∷ a ∷ b ∷ c ∷ []
+
+-- the term that an image means
+abbrev pub imageTerm : List ℕ → Image → Term
+imageTerm bytes (image.Var i) = var i
+imageTerm bytes (image.Row a) = term bytes a
+imageTerm bytes image.Zero = zer
+imageTerm bytes (image.First a) = first (term bytes a)
+imageTerm bytes (image.SuccVar i) = succ (var i)
+imageTerm bytes (image.Ind p a b c) = ind (term bytes p) (term bytes a) (term bytes b) (term bytes c)
+
+-- the rows that it names, and the index that it has, or 0
+abbrev pub imageRows : Image → List ℕ
+imageRows (image.Var i) = []
+imageRows (image.Row a) = a ∷ []
+imageRows image.Zero = []
+imageRows (image.First a) = a ∷ []
+imageRows (image.SuccVar i) = []
+imageRows (image.Ind p a b c) = p ∷ a ∷ b ∷ c ∷ []
+
+abbrev pub imageNumber : Image → ℕ
+imageNumber (image.Var i) = i
+imageNumber (image.Row a) = 0
+imageNumber image.Zero = 0
+imageNumber (image.First a) = 0
+imageNumber (image.SuccVar i) = i
+imageNumber (image.Ind p a b c) = 0
+
+-- the nearest index has the image, the others are lowered by 1
+abbrev pub loweredOf : Image → ℕ → Image
+loweredOf nearest zero = nearest
+loweredOf nearest (suc i) = image.Var i
+
+-- what is put for the index i
+abbrev pub imageOf : Put → ℕ → Image
+imageOf (put.Row a) i = loweredOf (image.Row a) i
+imageOf put.Zero i = loweredOf image.Zero i
+imageOf (put.First a) i = loweredOf (image.First a) i
+imageOf put.OuterSucc zero = image.SuccVar 1
+imageOf put.OuterSucc (suc i) = image.Var (suc (suc i))
+imageOf (put.Both p a b c) zero = image.Ind p a b c
+imageOf (put.Both p a b c) (suc i) = loweredOf (image.Row a) i

@@ -1,0 +1,11 @@
+pub mod Term
+pub mod Substitution
+pub mod FreeIndices
+pub mod Tag
+pub mod Decides
+pub mod Words
+pub mod Rows
+pub mod Table
+pub mod Sizes
+pub mod Nodes
+pub mod Images

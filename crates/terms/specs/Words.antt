@@ -1,0 +1,8 @@
+-- Words of a sheet: 16 bits, low byte first (document 01, "The sheet").
+use Prim.Native.Nat.{ℕ, _+_, _*_}
+use mathlib.Core.List.{List}
+use lib.ListN.{getD}
+
+-- the word at place i, counted in words; 0 past the end
+unfoldable pub wordAt : List ℕ → ℕ → ℕ
+wordAt bytes i = getD bytes (2 * i) 0 + 256 * getD bytes (2 * i + 1) 0

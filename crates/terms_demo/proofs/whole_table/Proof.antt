@@ -1,0 +1,55 @@
+-- The tests run only where the check found the table sound.
+use native.Mathlib.Omega.{arith}
+use Rattle.terms_demo.proofs.InTable.{sound-rows}
+use borrow.Author.Needs.{needs}
+use Rattle.terms_demo.proofs.whole_table.Statement.{statement}
+use Rattle.terms_demo.proofs.whole_table.Tie as tie
+
+slice-aggregate-fill-table : tie.Need-slice-aggregate-fill-table
+slice-aggregate-fill-table c = search needs
+
+fill-table-requires : tie.Need-fill-table-requires
+fill-table-requires c κs = search needs
+
+slice-aggregate-checked : tie.Need-slice-aggregate-checked
+slice-aggregate-checked c = search needs
+
+slice-aggregate-checked-2 : tie.Need-slice-aggregate-checked-2
+slice-aggregate-checked-2 c = search needs
+
+checked-requires : tie.Need-checked-requires
+checked-requires c κs = search needs
+
+enum-told : tie.Need-enum-told
+enum-told c = search needs
+
+slice-aggregate-write-tests : tie.Need-slice-aggregate-write-tests
+slice-aggregate-write-tests c = search needs
+
+write-tests-requires : tie.Need-write-tests-requires
+write-tests-requires c κs = sound-rows _ 43 _ (c .before .before .before .before .checked .ensures) (c .before .enum-told .given .1) (omega arith)
+
+enum-known-number : tie.Need-enum-known-number
+enum-known-number c = search needs
+
+returns : tie.Need-returns
+returns c = search needs
+
+returns-2 : tie.Need-returns-2
+returns-2 c = search needs
+
+pub whole-table-spec : {M : Type 1} → statement M
+whole-table-spec =
+    tie.close
+    (tie.spec
+    slice-aggregate-fill-table
+    fill-table-requires
+    slice-aggregate-checked
+    slice-aggregate-checked-2
+    checked-requires
+    enum-told
+    slice-aggregate-write-tests
+    write-tests-requires
+    enum-known-number
+    returns
+    returns-2)
