@@ -6,7 +6,7 @@ use Prim.Native.Nat.{ℕ}
 use Rattle.rules.specs.Judgment.{Judgment}
 use Rattle.derivations.specs.Derivation.{Derivation}
 use Rattle.derivations.specs.Fits.{Fits}
-use Rattle.derivations.specs.Accepted.{Bytes, IsAccepted, statedBy}
+use Rattle.sheets.specs.Accepted.{Bytes, IsAccepted, statedBy}
 use Rattle.derivations.specs.Demand3.{Complete}
 use Rattle.derivations.proofs.SheetDerives.{Demand1, good-accepted, accepted-good, stated-derivation}
 use Rattle.derivations.proofs.SheetFits.{stated-fits}

@@ -8,8 +8,9 @@ use lib.ListN.{length, getD}
 use Rattle.terms.specs.Words.{wordAt}
 use Rattle.sheets.specs.Layout.{contextsIn, linesIn, trailerWord, trailerOf, toLines, toContexts, toTerms}
 use Rattle.sheets.specs.Good.{trailerFor, LaidOut}
-use Rattle.derivations.specs.Accepted.{Bytes}
-use Rattle.derivations.proofs.BytesOf.{written, written-length, written-bytes, word-written, word-drop, follow, follow-first, follow-then, follow-below}
+use Rattle.sheets.specs.Accepted.{Bytes}
+use Rattle.sheets.proofs.WrittenLaws.{written, written-length, written-bytes, word-written, word-drop}
+use Rattle.derivations.proofs.BytesOf.{follow, follow-first, follow-then, follow-below}
 
 trailerWords : ℕ → ℕ → ℕ → ℕ → ℕ
 trailerWords T C L i = getD (T ∷ C ∷ L ∷ 1 ∷ toTerms T C L ∷ toContexts C L ∷ toLines L ∷ 0x4C44 ∷ []) i 0

@@ -7,7 +7,8 @@ use Prim.Native.Nat.{ℕ, zero, suc, _<_}
 use native.Mathlib.Omega.{arith}
 use lib.ListN.{length, getD}
 use Rattle.terms.specs.Table.{AllBelow}
-use Rattle.derivations.specs.Lists.{_∈_, listed}
+use Rattle.sheets.specs.Accepted.{listed}
+use Rattle.derivations.specs.Lists.{_∈_}
 
 module _ {A : Type 0} where
   pub listed-length : (f : ℕ → A) (n : ℕ) → length (listed f n) ≡ n

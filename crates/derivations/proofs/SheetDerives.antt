@@ -13,11 +13,11 @@ use Rattle.rules.specs.Instance.{Instance}
 use Rattle.rules.specs.RuleTable.{premiseCount}
 use Rattle.sheets.specs.Lines.{premisesOf, citedBy, lineAt, statedAt, LineFollows}
 use Rattle.sheets.specs.Admission.{admitOf}
-use Rattle.sheets.specs.Good.{trailerFor, Good}
+use Rattle.sheets.specs.Good.{Good}
 use Rattle.sheets.specs.declared.admission.Admission.the-variants.{Accepted}
-use Rattle.derivations.specs.Lists.{listed}
+use Rattle.sheets.proofs.AcceptedLaws.{stated-is}
 use Rattle.derivations.specs.Derivation.{judgmentAt, Derivation}
-use Rattle.derivations.specs.Accepted.{IsAccepted, statedBy}
+use Rattle.sheets.specs.Accepted.{IsAccepted, statedBy}
 use Rattle.derivations.specs.Demand3.{Sound}
 use Rattle.derivations.proofs.ListLaws.{listed-length, listed-at, map-below, all-below}
 
@@ -27,15 +27,11 @@ Demand1 = (b : List ℕ) (work T C L : ℕ) → (admitOf b work ≡ Accepted T C
 
 -- what a good sheet states
 module _ {b : List ℕ} {T C L : ℕ} (g : Good b T C L) where
-  pub stated-is : statedBy b ≡ listed (statedAt b T C) L
-  unfolding statedBy trailerFor
-  stated-is = ap (λ t. listed (statedAt b (t .terms) (t .contexts)) (t .lines)) (g .tables .laid .trailer)
-
   pub stated-length : length (statedBy b) ≡ L
-  stated-length = ap length stated-is ∙ listed-length (statedAt b T C) L
+  stated-length = ap length (stated-is g) ∙ listed-length (statedAt b T C) L
 
   pub stated-at : (i : ℕ) → i < L → judgmentAt (statedBy b) i ≡ statedAt b T C i
-  stated-at i h = ap (λ js. judgmentAt js i) stated-is ∙ listed-at (statedAt b T C) L i (wf []) h
+  stated-at i h = ap (λ js. judgmentAt js i) (stated-is g) ∙ listed-at (statedAt b T C) L i (wf []) h
 
   cited-earlier : (i : ℕ) → i < L → AllBelow i (citedBy (lineAt b T C i))
   unfolding citedBy premisesOf

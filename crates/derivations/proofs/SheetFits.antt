@@ -18,13 +18,14 @@ use Rattle.rules.proofs.ContextTableLaws.{context-empty, context-step}
 use Rattle.sheets.specs.Layout.{contextsIn}
 use Rattle.sheets.specs.Lines.{judgmentOf, lineAt, statedAt}
 use Rattle.sheets.specs.Good.{Good}
-use Rattle.derivations.specs.Lists.{_∈_, listed}
+use Rattle.derivations.specs.Lists.{_∈_}
 use Rattle.derivations.specs.Fits.{subterms, subjects, termsOf, beginnings, contextsOf, Fits}
-use Rattle.derivations.specs.Accepted.{statedBy}
+use Rattle.sheets.specs.Accepted.{listed, statedBy}
 use Rattle.derivations.proofs.ListLaws.{Among, listed-length, in-listed, of-listed, of-flat}
 use Rattle.derivations.proofs.DistinctLaws.{at-most-is}
 use Rattle.derivations.proofs.Subterms.{of-children, of-subterms}
-use Rattle.derivations.proofs.SheetDerives.{stated-is, stated-length}
+use Rattle.sheets.proofs.AcceptedLaws.{stated-is}
+use Rattle.derivations.proofs.SheetDerives.{stated-length}
 
 -- the index or level of a row that keeps its limit
 in-range : (τ : Tag) (n w : ℕ) (x : ℕ → Term) → w < limit τ n 1 → InRange (shape τ w x)

@@ -20,7 +20,7 @@ use Rattle.sheets.specs.Lines.{lineWord, judgmentOf, citedBy, lineAt, statedAt,
 use Rattle.sheets.specs.Good.{LineOk, Good}
 use Rattle.derivations.specs.Lists.{_∈_}
 use Rattle.derivations.specs.Derivation.{judgmentAt, Derivation}
-use Rattle.derivations.specs.Accepted.{Bytes, statedBy}
+use Rattle.sheets.specs.Accepted.{Bytes, statedBy}
 use Rattle.derivations.proofs.ListLaws.{in-place, map-below}
 use Rattle.derivations.proofs.Numbering.{number, numbered, numbered-in}
 use Rattle.derivations.proofs.SheetDerives.{stated-length, stated-at}

@@ -7,7 +7,7 @@ use lib.ListN.{length}
 use Rattle.rules.specs.Judgment.{Judgment}
 use Rattle.derivations.specs.Derivation.{judgmentAt, Derivation, Derives}
 use Rattle.derivations.specs.Fits.{Fits}
-use Rattle.derivations.specs.Accepted.{Bytes, IsAccepted, statedBy}
+use Rattle.sheets.specs.Accepted.{Bytes, IsAccepted, statedBy}
 
 -- (a) an accepted sheet states as many judgments as admission answers lines, and each of them has a finite derivation by the rules alone
 abbrev pub Sound : Type 0

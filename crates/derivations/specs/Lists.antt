@@ -1,19 +1,14 @@
--- Lists: the values of a function in order, and how many different elements a list has.
+-- Lists: how many different elements a list has.
 use mathlib.Core.Path.{_≡_}
 use mathlib.Core.Logic.{_⊎_, inl, inr}
 use mathlib.Core.List.{List, [], _∷_, List·Memᴰ, List·Memᴰ·head, List·Memᴰ·tail, List·Memᴰ·not-nil, List·Memᴰ·cases-cons}
-use Prim.Native.Nat.{ℕ, zero, suc, _≤_}
+use Prim.Native.Nat.{ℕ, _≤_}
 use lib.ListN.{length}
 
 -- x stands in the list
 infix 50 _∈_
 abbrev pub _∈_ : {A : Type 0} → A → List A → Type 0
 x ∈ l = List·Memᴰ x l
-
--- f 0, f 1 and so on, n of them
-unfoldable pub listed : {A : Type 0} → (ℕ → A) → ℕ → List A
-listed f zero = []
-listed f (suc n) = f 0 ∷ listed (λ i. f (suc i)) n
 
 next? : {A : Type 0} {x y : A} {l : List A} → Dec (x ≡ y) → Dec (x ∈ l) → Dec (x ∈ (y ∷ l))
 next? (yes e) d = yes (List·Memᴰ·head e)

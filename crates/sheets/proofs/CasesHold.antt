@@ -1,4 +1,4 @@
--- M1 to M8: admission answers and leaves in the work buffer what document 01 says, by computation.
+-- M1 to M11: admission and withdrawal answer, and leave in the buffers, what document 01 says, by computation.
 -- Assumes nothing.
 use mathlib.Core.Path.{_≡_, refl}
 use mathlib.Core.List.{map}
@@ -14,7 +14,9 @@ use Rattle.rules.specs.Stated.{stated, judgmentOf as plainJudgment}
 use Rattle.sheets.specs.Layout.{contextsIn, linesIn, trailerWord, trailerOf, lengthFits, markFits, limitsFit, distancesFit, trailerAnswer, layoutOf}
 use Rattle.sheets.specs.Lines.{lineWord, lineOf, judgmentOf, premisesOf, citedBy, below, subjectsFit, premisesFit, ruleFits, numbersFit, lineFits, lineAt, statedAt, lineFollows?, checkLinesFrom, checkLines}
 use Rattle.sheets.specs.Admission.{afterLines, afterContexts, afterTerms, afterLayout, admitOf, workFrom, workAfter}
-use Rattle.sheets.specs.Cases.{bytesOf, wordsOfS, countOfLines, wordOfLine, variableAlone, applied, doubling, doubledSizes, answered, expected, nines, sizesOfS, cases}
+use Rattle.sheets.specs.Accepted.{listed}
+use Rattle.sheets.specs.Withdrawal.{bytesOf, uses, firstUseFrom, firstUse, newLength, afterUse, afterLine, withdrawAfter, withdrawOf, lowerPremise, lowered, trailerLoses, oldPlace, newWord, sheetWithout, withoutLine, outFrom, outAfter}
+use Rattle.sheets.specs.Cases.{sharedWords, wordsOfS, wordsOfM9, answerTo, countOfLines, wordOfLine, variableAlone, applied, doubling, doubledSizes, answered, expected, nines, sizesOfS, cases}
 
 pub cases-hold : map answered cases ≡ map expected cases
 unfolding tagOf arity used shape wordAt word tag termTo term usedLimit limit
@@ -24,5 +26,6 @@ unfolding tagOf arity used shape wordAt word tag termTo term usedLimit limit
     contextsIn linesIn trailerWord trailerOf lengthFits markFits limitsFit distancesFit trailerAnswer layoutOf
     lineWord lineOf judgmentOf premisesOf citedBy below subjectsFit premisesFit ruleFits numbersFit lineFits lineAt statedAt lineFollows? checkLinesFrom checkLines
     afterLines afterContexts afterTerms afterLayout admitOf workFrom workAfter
-    bytesOf wordsOfS countOfLines wordOfLine variableAlone applied doubling doubledSizes nines sizesOfS cases
+    listed uses firstUseFrom firstUse newLength afterUse afterLine withdrawAfter withdrawOf lowerPremise lowered trailerLoses oldPlace newWord sheetWithout withoutLine outFrom outAfter
+    bytesOf sharedWords wordsOfS wordsOfM9 answerTo countOfLines wordOfLine variableAlone applied doubling doubledSizes nines sizesOfS cases
 cases-hold = refl

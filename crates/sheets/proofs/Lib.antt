@@ -7,3 +7,8 @@ pub mod AdmissionLaws
 pub mod FindingLaws
 pub mod AnswerLaws
 pub mod LineAnswers
+pub mod WrittenLaws
+pub mod AcceptedLaws
+pub mod SheetWithout
+pub mod WithdrawalLaws
+pub mod WithdrawalAnswers

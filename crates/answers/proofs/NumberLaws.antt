@@ -1,0 +1,89 @@
+-- Reading a number digit by digit: what the digits read so far make of the rest.
+-- Assumes nothing.
+use mathlib.Core.Path.{_≡_, refl, sym, _∙_, ap, subst}
+use mathlib.Core.Bool.{Bool, true, false, _&&_, cond, false≢true}
+use mathlib.Core.List.{List, [], _∷_}
+use Prim.Native.Nat.{ℕ, suc, _+_, _-_, _*_, _≤_, _<_}
+use native.Mathlib.Numerals.{add-one}
+use native.Mathlib.Omega.{arith}
+use lib.Dec.{ltb, leb}
+use lib.ListN.{length, getD, drop, drop-of-length-le}
+use lib.Seq.{drop-cons}
+use borrow.Author.Tests.{le-ltb, lt-ltb, leb-true}
+use Rattle.answers.specs.declared.numbers.Reading.the-variants.{Number, Unreadable}
+use Rattle.answers.specs.Numbers.{isDigit, allDigits, spelled, readFrom, readNumber}
+
+-- after i digits the number read so far, with the rest of the text, answers for the whole
+pub record ReadSoFar (text : List ℕ) (number i : ℕ) : Type 0 where
+  pub within : i ≤ length text
+  pub small : number < 4294967296
+  pub answer : readNumber text ≡ readFrom number (drop i text)
+
+both : (a b : Bool) → a && b ≡ true → (a ≡ true) × (b ≡ true)
+both true b e = (refl, e)
+both false b e = absurd (false≢true e)
+
+pub digit-range : (byte : ℕ) → isDigit byte ≡ true → (48 ≤ byte) × (byte ≤ 57)
+unfolding isDigit
+digit-range byte e = (leb-true 48 byte (tests .0), leb-true byte 57 (tests .1))
+  where
+    tests : (leb 48 byte ≡ true) × (leb byte 57 ≡ true)
+    tests = both (leb 48 byte) (leb byte 57) e
+
+spelled-grows : (before : ℕ) (text : List ℕ) → before ≤ spelled before text
+unfolding spelled
+spelled-grows before [] = omega arith
+spelled-grows before (byte ∷ text) = omega (arith, spelled-grows (10 * before + (byte - 48)) text)
+
+no-digit : (before byte : ℕ) (text : List ℕ) → isDigit byte ≡ false → readFrom before (byte ∷ text) ≡ Unreadable
+unfolding readFrom allDigits
+no-digit before byte text e = rw e
+
+digit : (before byte : ℕ) (text : List ℕ) → isDigit byte ≡ true → readFrom before (byte ∷ text) ≡ readFrom (10 * before + (byte - 48)) text
+unfolding readFrom allDigits spelled
+digit before byte text e = rw e
+
+and-false : (a : Bool) → a && false ≡ false
+and-false true = refl
+and-false false = refl
+
+too-large : (before : ℕ) (text : List ℕ) → 4294967295 < before → readFrom before text ≡ Unreadable
+unfolding readFrom
+too-large before text h =
+    rw (le-ltb (spelled before text) 4294967296 (omega (arith, spelled-grows before text)), and-false)
+
+pub start : (text : List ℕ) → (length text ≡ 0 → ⊥) → ReadSoFar text 0 0
+unfolding readNumber
+start [] h = absurd (h refl)
+start (byte ∷ text) h = record { within = omega arith; small = omega arith; answer = refl }
+
+pub empty : (text : List ℕ) → length text ≡ 0 → Unreadable ≡ readNumber text
+unfolding readNumber
+empty [] e = refl
+empty (byte ∷ text) e = absurd (omega arith)
+
+module _ (text : List ℕ) (number i : ℕ) (so-far : ReadSoFar text number i) where
+  pub done : length text ≤ i → Number number ≡ readNumber text
+  unfolding readFrom allDigits spelled
+  done h = sym (so-far .answer ∙ ap (readFrom number) (drop-of-length-le text h) ∙ simp (lt-ltb number 4294967296 (so-far .small)))
+
+  module _ (inside : i < length text) (byte : ℕ) (here : byte ≡ getD text i 0) where
+    at-byte : readNumber text ≡ readFrom number (byte ∷ drop (suc i) text)
+    at-byte = so-far .answer ∙ ap (readFrom number) (drop-cons text i 0 inside ∙ ap (λ b. b ∷ drop (suc i) text) (sym here))
+
+    pub not-read : isDigit byte ≡ false → Unreadable ≡ readNumber text
+    not-read e = sym (at-byte ∙ no-digit number byte (drop (suc i) text) e)
+
+    module _ (is : isDigit byte ≡ true) (next : ℕ) (grown : next ≡ 10 * number + (byte - 48)) where
+      with-digit : readNumber text ≡ readFrom next (drop (suc i) text)
+      with-digit = at-byte ∙ digit number byte (drop (suc i) text) is ∙ ap (λ n. readFrom n (drop (suc i) text)) (sym grown)
+
+      pub overflows : 4294967295 < next → Unreadable ≡ readNumber text
+      overflows h = sym (with-digit ∙ too-large next (drop (suc i) text) h)
+
+      pub goes-on : next ≤ 4294967295 → ReadSoFar text next (i + 1)
+      goes-on h = record {
+        within = omega arith;
+        small = omega arith;
+        answer = with-digit ∙ ap (λ n. readFrom next (drop n text)) (sym (add-one i));
+      }

@@ -1,0 +1,132 @@
+-- Texts put into a buffer piece by piece, and the digits of a number.
+-- Assumes nothing.
+use mathlib.Core.Path.{_≡_, refl, sym, _∙_, ap, subst}
+use mathlib.Core.Logic.{⊎-elim}
+use mathlib.Core.Bool.{Bool, true, false, cond}
+use mathlib.Core.List.{List, [], _∷_, _++_, append-assoc, append-nil}
+use Prim.Native.Nat.{ℕ, zero, suc, _+_, _-_, _*_, _/_, _^_, _≤_, _<_}
+use native.Mathlib.Numerals.{add-one}
+use native.Mathlib.Nat.{pow-suc, pow-le-pow-right, le-div-iff-mul-le, div-lt-iff-lt-mul}
+use native.Mathlib.Omega.{arith}
+use lib.Dec.{ltb}
+use lib.ListN.{length, getD, take, set, length-set, length-append}
+use lib.Seq.{take-suc, take-suc-set, take-all, length-take-le}
+use borrow.Author.Tests.{ltb-true, ltb-false}
+use Rattle.io.specs.Counts.{Counts}
+use Rattle.io.specs.Digits.{digits, Fewest}
+use Rattle.answers.specs.Text.{places, decimal, field, Put}
+
+-- the first i of the bytes are put
+pub record PutSoFar (before : List ℕ) (at : ℕ) (bytes after : List ℕ) (i : ℕ) : Type 0 where
+  pub within : i ≤ length bytes
+  pub whole : length after ≡ length before
+  pub text : take (at + i) after ≡ take at before ++ take i bytes
+
+module _ (before : List ℕ) (at : ℕ) (bytes : List ℕ) where
+  pub put-start : PutSoFar before at bytes before 0
+  put-start = record {
+    within = omega arith;
+    whole = refl;
+    text = ap (λ n. take n before) none ∙ sym (append-nil (take at before));
+  }
+    where
+      none : at + 0 ≡ at
+      none = omega arith
+
+  module _ (after : List ℕ) (i : ℕ) (so-far : PutSoFar before at bytes after i) where
+    pub put-next : i < length bytes → at + length bytes ≤ length before → PutSoFar before at bytes (set after (at + i) (getD bytes i 0)) (i + 1)
+    put-next inside room = record {
+      within = omega arith;
+      whole = length-set after (at + i) (getD bytes i 0) ∙ so-far .whole;
+      text = ap (λ n. take n (set after (at + i) (getD bytes i 0))) next
+          ∙ take-suc-set after (at + i) (getD bytes i 0) (omega (arith, so-far .whole))
+          ∙ ap (λ l. l ++ (getD bytes i 0 ∷ [])) (so-far .text)
+          ∙ append-assoc (take at before) (take i bytes) (getD bytes i 0 ∷ [])
+          ∙ ap (λ l. take at before ++ l) (sym (take-suc bytes i 0 inside) ∙ ap (λ n. take n bytes) (sym (add-one i)));
+    }
+      where
+        next : at + (i + 1) ≡ suc (at + i)
+        next = omega arith
+
+    pub put-done : length bytes ≤ i → at + length bytes ≤ length before → Put before at bytes after (at + i)
+    put-done all room = record {
+      whole = so-far .whole;
+      place = omega (arith, so-far .within);
+      room = omega (arith, so-far .within, so-far .whole);
+      text = so-far .text ∙ ap (λ l. take at before ++ l) (take-all i bytes all);
+    }
+
+module _ {a b c : List ℕ} {x y : List ℕ} {at e f : ℕ} where
+  -- two texts put one behind the other are one
+  pub joined : Put a at x b e → Put b e y c f → Put a at (x ++ y) c f
+  joined p q = record {
+    whole = q .whole ∙ p .whole;
+    place = omega (arith, p .place, q .place, length-append x y);
+    room = q .room;
+    text = q .text ∙ ap (λ l. l ++ y) (p .text) ∙ append-assoc (take at a) x y;
+  }
+
+-- a text put at the start is all there is
+pub whole-line : {a x b : List ℕ} {e : ℕ} → Put a 0 x b e → Counts e b × (take e b ≡ x)
+whole-line {b = b} {e = e} p = ((p .room, sym (length-take-le e b (p .room))), p .text)
+
+-- the fewest digits that hold a number are as many as it has
+less-one : (n : ℕ) → suc n - 1 ≡ n
+less-one n = omega arith
+
+fewer : (n k : ℕ) → 10 ≤ n → Fewest 10 1 n (suc k) → Fewest 10 1 (n / 10) k
+fewer n k large f = (
+  some k (f .1),
+  div-lt-iff-lt-mul {k = 10} {x = n} {y = 10 ^ k} (omega arith) .1 (subst (λ p. n < p) (pow-suc 10 k) (f .1)),
+  λ h. le-div-iff-mul-le {k = 10} {x = 10 ^ (k - 1)} {y = n} (omega arith) .1 (above k h (f .2 (omega arith))),
+)
+  where
+    some : (j : ℕ) → n < 10 ^ suc j → 1 ≤ j
+    some zero h = absurd (omega arith)
+    some (suc j) h = omega arith
+
+    above : (j : ℕ) → 1 < j → 10 ^ (suc j - 1) ≤ n → 10 ^ (j - 1) * 10 ≤ n
+    above zero h p = absurd (omega arith)
+    above (suc j) h p =
+        subst (λ m. 10 ^ m * 10 ≤ n) (sym (less-one j)) (subst (λ q. q ≤ n) (ap (λ m. 10 ^ m) (less-one (suc j)) ∙ pow-suc 10 j) p)
+
+one-place : (n k : ℕ) → n < 10 → Fewest 10 1 n (suc k) → suc k ≡ 1
+one-place n zero small f = refl
+one-place n (suc k) small f =
+    absurd (omega (arith, ten, pow-le-pow-right {n = 10} (omega arith) {i = 1} {j = suc k} (omega arith)))
+  where
+    ten : 10 ^ suc k ≤ n
+    ten = subst (λ m. 10 ^ m ≤ n) (less-one (suc k)) (f .2 (omega arith))
+
+places-are : (more n k : ℕ) → Fewest 10 1 n k → k ≤ suc more → k ≡ places more n
+unfolding places
+places-are zero n k f h = omega (arith, f .0)
+places-are (suc more) n zero f h = absurd (omega (arith, f .0))
+places-are (suc more) n (suc k) f h = pick (ltb n 10) refl (λ large. places-are more (n / 10) k (fewer n k large f) (omega arith))
+  where
+    pick : (small : Bool) → ltb n 10 ≡ small → (10 ≤ n → k ≡ places more (n / 10)) → suc k ≡ cond small 1 (suc (places more (n / 10)))
+    pick true e rest = one-place n k (ltb-true n 10 e) f
+    pick false e rest = ap suc (rest (ltb-false n 10 e))
+
+-- twenty digits hold a number of 64 bits
+pub twenty : (n k : ℕ) → n < 18446744073709551616 → Fewest 10 1 n k → k ≤ 20
+twenty n k small f = pick (ltb 20 k) refl
+  where
+    pick : (large : Bool) → ltb 20 k ≡ large → k ≤ 20
+    pick true e =
+        absurd (omega (arith, ltb-true 20 k e, f .2 (omega (arith, ltb-true 20 k e)), pow-le-pow-right {n = 10} (omega arith) {i = 20} {j = k - 1} (omega (arith, ltb-true 20 k e))))
+    pick false e = ltb-false 20 k e
+
+pub decimal-is : (n k : ℕ) → n < 18446744073709551616 → Fewest 10 1 n k → digits 10 k n ≡ decimal n
+unfolding decimal
+decimal-is n k small f = ap (λ j. digits 10 j n) (places-are 19 n k f (twenty n k small f))
+
+-- a space and the digits are put
+pub number-put :
+    {a b c : List ℕ} {at e f : ℕ} (n k : ℕ) → n < 18446744073709551616 → Fewest 10 1 n k → (ds : List ℕ) → k ≡ length ds → ds ≡ digits 10 k n →
+    Put a at (32 ∷ []) b e → Put b e ds c f → Put a at (field n) c f × (f ≤ at + 21)
+unfolding field
+number-put {a} {b} {c} {at} {e} {f} n k small fewest ds long spell p q = (
+  subst (λ l. Put a at (32 ∷ l) c f) (spell ∙ decimal-is n k small fewest) (joined p q),
+  omega (arith, p .place, q .place, twenty n k small fewest),
+)

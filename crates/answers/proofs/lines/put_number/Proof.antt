@@ -1,0 +1,46 @@
+use native.Mathlib.Omega.{arith}
+use Rattle.answers.proofs.TextLaws.{twenty, decimal-is, number-put}
+use borrow.Author.Needs.{needs}
+use Rattle.answers.proofs.lines.put_number.Statement.{statement}
+use Rattle.answers.proofs.lines.put_number.Tie as tie
+use Rattle.answers.proofs.lines.put_number.Reads as reads
+use Rattle.answers.proofs.lines.put_number.Lts as lts
+use Rattle.answers.proofs.lines.put.Reads as put-reads
+use Rattle.io.proofs.decimal.Reads as decimal-reads
+
+decimal-requires : tie.Need-decimal-requires
+decimal-requires c κs = search needs
+
+slice-aggregate-put : tie.Need-slice-aggregate-put
+slice-aggregate-put c = search needs
+
+put-requires : tie.Need-put-requires
+put-requires c κs = search needs
+
+array-share-prefix-digits : tie.Need-array-share-prefix-digits
+array-share-prefix-digits c = search needs
+
+slice-aggregate-put-2 : tie.Need-slice-aggregate-put-2
+slice-aggregate-put-2 c = search needs
+
+put-requires-2 : tie.Need-put-requires-2
+put-requires-2 c κs = omega (arith, c .before .before .before .before .before .before .before .decimal .ensures .0 .1, c .before .before .before .before .put .ensures .place, c .before .before .before .before .put .ensures .whole, twenty _ (c .before .before .before .before .before .before .before .decimal .result) (c .before .before .before .before .before .before .before .before .before .before .fits .number .fits) (c .before .before .before .before .before .before .before .decimal .ensures .1 .0))
+
+same-length : tie.Need-same-length
+same-length c = search needs
+
+returns : tie.Need-returns
+returns c = number-put _ (c .before .before .before .before .before .before .before .before .before .before .decimal .result) (c .before .before .before .before .before .before .before .before .before .before .before .before .before .fits .number .fits) (c .before .before .before .before .before .before .before .before .before .before .decimal .ensures .1 .0) _ (c .before .before .before .before .before .before .before .before .before .before .decimal .ensures .0 .1) (c .before .before .before .before .before .before .before .before .before .before .decimal .ensures .1 .1) (c .before .before .before .before .before .before .before .put .ensures) (c .before .before .put2 .ensures)
+
+pub put-number-spec : {M : Type 1} → statement M
+put-number-spec =
+    tie.close
+    (tie.spec
+    decimal-requires
+    slice-aggregate-put
+    put-requires
+    array-share-prefix-digits
+    slice-aggregate-put-2
+    put-requires-2
+    same-length
+    returns)

@@ -1,0 +1,81 @@
+use Rattle.answers.specs.Numbers.{requestOf}
+use borrow.Author.Needs.{needs}
+use Rattle.answers.proofs.numbers.request_of.Statement.{statement}
+use Rattle.answers.proofs.numbers.request_of.Tie as tie
+use Rattle.answers.proofs.numbers.request_of.Reads as reads
+use Rattle.answers.proofs.numbers.request_of.Lts as lts
+
+enum-known-form : tie.Need-enum-known-form
+enum-known-form c = search needs
+
+enum-told : tie.Need-enum-told
+enum-told c = search needs
+
+returns : tie.Need-returns
+unfolding requestOf
+returns c = rw (c .enum-told .given .1, requestOf)
+
+enum-known-context : tie.Need-enum-known-context
+enum-known-context c = search needs
+
+enum-told-2 : tie.Need-enum-told-2
+enum-told-2 c = search needs
+
+returns-2 : tie.Need-returns-2
+unfolding requestOf
+returns-2 c = rw (c .before .before .before .form .given .1, c .enum-told2 .given .1, requestOf)
+
+enum-known-s1 : tie.Need-enum-known-s1
+enum-known-s1 c = search needs
+
+enum-told-3 : tie.Need-enum-told-3
+enum-told-3 c = search needs
+
+returns-3 : tie.Need-returns-3
+unfolding requestOf
+returns-3 c = rw (c .before .before .before .before .before .before .form .given .1, c .before .before .before .context .given .1, c .enum-told3 .given .1, requestOf)
+
+enum-known-s2 : tie.Need-enum-known-s2
+enum-known-s2 c = search needs
+
+enum-told-4 : tie.Need-enum-told-4
+enum-told-4 c = search needs
+
+returns-4 : tie.Need-returns-4
+unfolding requestOf
+returns-4 c = rw (c .before .before .before .before .before .before .before .before .before .form .given .1, c .before .before .before .before .before .before .context .given .1, c .before .before .before .s1 .given .1, c .enum-told4 .given .1, requestOf)
+
+enum-known-s3 : tie.Need-enum-known-s3
+enum-known-s3 c = search needs
+
+enum-told-5 : tie.Need-enum-told-5
+enum-told-5 c = search needs
+
+returns-5 : tie.Need-returns-5
+unfolding requestOf
+returns-5 c = rw (c .before .before .before .before .before .before .before .before .before .before .before .before .form .given .1, c .before .before .before .before .before .before .before .before .before .context .given .1, c .before .before .before .before .before .before .s1 .given .1, c .before .before .before .s2 .given .1, c .enum-told5 .given .1, requestOf)
+
+returns-6 : tie.Need-returns-6
+unfolding requestOf
+returns-6 c = rw (c .before .before .before .before .before .before .before .before .before .before .before .before .before .form .given .1, c .before .before .before .before .before .before .before .before .before .before .context .given .1, c .before .before .before .before .before .before .before .s1 .given .1, c .before .before .before .before .s2 .given .1, c .before .s3 .given .1, requestOf)
+
+pub request-of-spec : {M : Type 1} → statement M
+request-of-spec =
+    tie.close
+    (tie.spec
+    enum-known-form
+    enum-told
+    returns
+    enum-known-context
+    enum-told-2
+    returns-2
+    enum-known-s1
+    enum-told-3
+    returns-3
+    enum-known-s2
+    enum-told-4
+    returns-4
+    enum-known-s3
+    enum-told-5
+    returns-5
+    returns-6)

@@ -1,0 +1,56 @@
+-- Answers as lines of text: document 01, "The admitting program reads standard input and prints `ok` with T, C and L, or `refused`
+-- with number and place, fields parted by one space, then a newline."
+use mathlib.Core.Path.{_≡_}
+use mathlib.Core.Bool.{cond}
+use mathlib.Core.List.{List, [], _∷_, _++_}
+use Prim.Native.Nat.{ℕ, zero, suc, _+_, _/_, _≤_}
+use lib.Dec.{ltb}
+use lib.ListN.{length, take}
+use Rattle.io.specs.Digits.{digits}
+use Rattle.sheets.specs.declared.admission.Admission.{Admission}
+use Rattle.sheets.specs.declared.admission.Admission.the-variants.{Accepted, Refused}
+use Rattle.sheets.specs.declared.finding.Found.{Found}
+use Rattle.sheets.specs.declared.finding.Found.the-variants.{Line, Refused as notFound}
+
+-- how many digits a number has, if that is at most one more than the first argument
+unfoldable pub places : ℕ → ℕ → ℕ
+places zero n = 1
+places (suc more) n = cond (ltb n 10) 1 (suc (places more (n / 10)))
+
+-- the digits of a number; twenty hold every number of 64 bits
+unfoldable pub decimal : ℕ → List ℕ
+decimal n = digits 10 (places 19 n) n
+
+-- a space and the digits of a number
+unfoldable pub field : ℕ → List ℕ
+field n = 32 ∷ decimal n
+
+-- the line end
+abbrev pub end : List ℕ
+end = 10 ∷ []
+
+-- "ok"
+abbrev pub ok : List ℕ
+ok = 111 ∷ 107 ∷ []
+
+-- "refused"
+abbrev pub refused : List ℕ
+refused = 114 ∷ 101 ∷ 102 ∷ 117 ∷ 115 ∷ 101 ∷ 100 ∷ []
+
+unfoldable pub refusedText : ℕ → ℕ → List ℕ
+refusedText number place = refused ++ (field number ++ (field place ++ end))
+
+unfoldable pub admissionText : Admission → List ℕ
+admissionText (Accepted terms contexts lines) = ok ++ (field terms ++ (field contexts ++ (field lines ++ end)))
+admissionText (Refused number place) = refusedText number place
+
+unfoldable pub foundText : Found → List ℕ
+foundText (Line line) = ok ++ (field line ++ end)
+foundText (notFound number place) = refusedText number place
+
+-- bytes stand behind the first at bytes of a buffer, whose length is kept, and end at the given place
+pub record Put (before : List ℕ) (at : ℕ) (bytes after : List ℕ) (stop : ℕ) : Type 0 where
+  pub whole : length after ≡ length before
+  pub place : stop ≡ at + length bytes
+  pub room : stop ≤ length after
+  pub text : take stop after ≡ take at before ++ bytes

@@ -1,0 +1,79 @@
+// Answers as lines of text.
+use sheets::admission::Admission;
+use sheets::finding::Found;
+ghost use mathlib.Core.Path.{_≡_};
+ghost use Prim.Native.Nat.{_+_, _≤_};
+ghost use lib.ListN.{length, take};
+ghost use Rattle.io.specs.Counts.{Counts};
+ghost use Rattle.answers.specs.Text.{field, admissionText, foundText, refusedText, Put};
+
+// Puts bytes behind the first `at` bytes of `out`, and answers where they end.
+fn put(out: &mut [u8], at: usize, bytes: &[u8]) -> usize
+    requires { ⌜ at + length (now bytes) ≤ length (now out) ⌝ }
+    ensures { λ r. ⌜ Put (now (out .entry)) at (now (bytes .entry)) (now (out .exit)) r ⌝ }
+{
+    let mut i = 0;
+    while i < bytes.len() {
+        out[at + i] = bytes[i];
+        i += 1;
+    }
+    at + i
+}
+
+// Puts a space and the digits of a number behind the first `at` bytes of `out`, and answers where they end.
+fn put_number(out: &mut [u8], at: usize, number: usize) -> usize
+    requires { ⌜ at + 21 ≤ length (now out) ⌝ }
+    ensures { λ r. ⌜ Put (now (out .entry)) at (field number) (now (out .exit)) r × (r ≤ at + 21) ⌝ }
+{
+    let mut digits = [0u8; 20];
+    let count = io::decimal(number as u64, &mut digits);
+    let after = put(out, at, b" ");
+    put(out, after, &digits[..count])
+}
+
+// Puts the word, the two numbers and a line end, and answers how many bytes that is.
+fn put_refusal(number: usize, place: usize, out: &mut [u8; 80]) -> usize
+    ensures { λ r. ⌜ Counts r (now (out .exit)) ⌝ }
+    ensures { λ r. ⌜ take r (now (out .exit)) ≡ refusedText number place ⌝ }
+{
+    let word = put(out, 0, b"refused");
+    let first = put_number(out, word, number);
+    let second = put_number(out, first, place);
+    put(out, second, b"\n")
+}
+
+// Puts the line of an admission's answer, and answers how many bytes it has.
+pub fn put_admission(answer: Admission, out: &mut [u8; 80]) -> usize
+    ensures { λ r. ⌜ Counts r (now (out .exit)) ⌝ }
+    ensures { λ r. ⌜ take r (now (out .exit)) ≡ admissionText answer ⌝ }
+{
+    match answer {
+        Admission::Refused { number, place } => put_refusal(number, place, out),
+        Admission::Accepted {
+            terms,
+            contexts,
+            lines,
+        } => {
+            let word = put(out, 0, b"ok");
+            let first = put_number(out, word, terms);
+            let second = put_number(out, first, contexts);
+            let third = put_number(out, second, lines);
+            put(out, third, b"\n")
+        }
+    }
+}
+
+// Puts the line of a search's answer, and answers how many bytes it has.
+pub fn put_found(answer: Found, out: &mut [u8; 80]) -> usize
+    ensures { λ r. ⌜ Counts r (now (out .exit)) ⌝ }
+    ensures { λ r. ⌜ take r (now (out .exit)) ≡ foundText answer ⌝ }
+{
+    match answer {
+        Found::Refused { number, place } => put_refusal(number, place, out),
+        Found::Line(line) => {
+            let word = put(out, 0, b"ok");
+            let first = put_number(out, word, line);
+            put(out, first, b"\n")
+        }
+    }
+}

@@ -1,0 +1,71 @@
+use Prim.Native.Nat.{_-_, _≤_}
+use borrow.Author.Needs.{needs}
+use lib.ListN.{length}
+use Rattle.samples.proofs.number_in.Statement.{statement}
+use Rattle.samples.proofs.number_in.Tie as tie
+use Rattle.samples.proofs.number_in.Reads as reads
+use Rattle.samples.proofs.number_in.Lts as lts
+use Rattle.answers.proofs.numbers.read_number.Reads as read-number-reads
+use Rattle.samples.proofs.behind.Reads as behind-reads
+use Rattle.samples.proofs.place_of.Reads as place-of-reads
+
+abbrev Inv-loop : tie.InvT-loop
+Inv-loop line n start₀ passed₀ start passed = start ≤ length line
+
+abbrev μ-loop : tie.MeasureT-loop
+μ-loop line n start₀ passed₀ start passed = n - passed
+
+loop-holds : tie.Need-loop-holds Inv-loop μ-loop
+loop-holds c = search needs
+
+place-of-requires : tie.Need-place-of-requires Inv-loop μ-loop
+place-of-requires c κs = search needs
+
+behind-requires : tie.Need-behind-requires Inv-loop μ-loop
+behind-requires c κs = search needs
+
+add-passed : tie.Need-add-passed Inv-loop μ-loop
+add-passed c = search needs
+
+loop-less : tie.Need-loop-less Inv-loop μ-loop
+loop-less c = search needs
+
+loop-again : tie.Need-loop-again Inv-loop μ-loop
+loop-again c = search needs
+
+place-of-requires-2 : tie.Need-place-of-requires-2 Inv-loop μ-loop
+place-of-requires-2 c κs = search needs
+
+sub-read-number : tie.Need-sub-read-number Inv-loop μ-loop
+sub-read-number c = search needs
+
+part-read-number-start : tie.Need-part-read-number-start Inv-loop μ-loop
+part-read-number-start c = search needs
+
+part-read-number-end : tie.Need-part-read-number-end Inv-loop μ-loop
+part-read-number-end c = search needs
+
+read-number-requires : tie.Need-read-number-requires Inv-loop μ-loop
+read-number-requires c κs = search needs
+
+returns : tie.Need-returns Inv-loop μ-loop
+returns c = search needs
+
+pub number-in-spec : {M : Type 1} → statement M
+number-in-spec =
+    tie.close
+    (tie.spec
+    Inv-loop
+    μ-loop
+    loop-holds
+    place-of-requires
+    behind-requires
+    add-passed
+    loop-less
+    loop-again
+    place-of-requires-2
+    sub-read-number
+    part-read-number-start
+    part-read-number-end
+    read-number-requires
+    returns)

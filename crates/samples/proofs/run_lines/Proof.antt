@@ -1,0 +1,63 @@
+use Prim.Native.Nat.{_-_, _≤_}
+use borrow.Author.Needs.{needs}
+use lib.ListN.{length}
+use Rattle.samples.proofs.run_lines.Statement.{statement}
+use Rattle.samples.proofs.run_lines.Tie as tie
+use Rattle.samples.proofs.run_lines.Reads as reads
+use Rattle.samples.proofs.run_lines.Lts as lts
+use Rattle.samples.proofs.behind.Reads as behind-reads
+use Rattle.samples.proofs.place_of.Reads as place-of-reads
+use Rattle.samples.proofs.run_line.Reads as run-line-reads
+
+abbrev Inv-loop : tie.InvT-loop
+Inv-loop list task start₀ start = start ≤ length list
+
+abbrev μ-loop : tie.MeasureT-loop
+μ-loop list task start₀ start = length list - start
+
+loop-holds : tie.Need-loop-holds Inv-loop μ-loop
+loop-holds c = search needs
+
+place-of-requires : tie.Need-place-of-requires Inv-loop μ-loop
+place-of-requires c κs = search needs
+
+sub-run-line : tie.Need-sub-run-line Inv-loop μ-loop
+sub-run-line c = search needs
+
+part-run-line-start : tie.Need-part-run-line-start Inv-loop μ-loop
+part-run-line-start c = search needs
+
+part-run-line-end : tie.Need-part-run-line-end Inv-loop μ-loop
+part-run-line-end c = search needs
+
+run-line-requires : tie.Need-run-line-requires Inv-loop μ-loop
+run-line-requires c κs = search needs
+
+behind-requires : tie.Need-behind-requires Inv-loop μ-loop
+behind-requires c κs = search needs
+
+loop-less : tie.Need-loop-less Inv-loop μ-loop
+loop-less c = search needs
+
+loop-again : tie.Need-loop-again Inv-loop μ-loop
+loop-again c = search needs
+
+returns : tie.Need-returns Inv-loop μ-loop
+returns c = search needs
+
+pub run-lines-spec : {M : Type 1} → statement M
+run-lines-spec =
+    tie.close
+    (tie.spec
+    Inv-loop
+    μ-loop
+    loop-holds
+    place-of-requires
+    sub-run-line
+    part-run-line-start
+    part-run-line-end
+    run-line-requires
+    behind-requires
+    loop-less
+    loop-again
+    returns)

@@ -1,0 +1,411 @@
+-- The sheet without a line that no later line uses: it is good, and it states the judgments of the old one, that line's missing.
+-- Assumes nothing.
+use mathlib.Core.Path.{_≡_, refl, sym, _∙_, ap, ap₂, subst, subst₂}
+use mathlib.Core.Bool.{true, false}
+use mathlib.Core.List.{List, [], _∷_, map}
+use Prim.Native.Nat.{ℕ, zero, suc, _+_, _-_, _*_, _%_, _≤_, _<_}
+use native.Mathlib.Decide.{decLt}
+use native.Mathlib.Omega.{arith}
+use lib.Dec.{leb, ltb}
+use lib.ListN.{length, getD, take, drop, length-drop}
+use borrow.Author.Tests.{lt-ltb}
+use Rattle.terms.specs.Term.{Term, size}
+use Rattle.terms.specs.Tag.{tagOf}
+use Rattle.terms.specs.Words.{wordAt}
+use Rattle.terms.specs.Rows.{word, tag, term}
+use Rattle.terms.specs.Table.{limit, GoodRow, TermTable}
+use Rattle.terms.proofs.TermLaws.{downward, same-term}
+use Rattle.rules.specs.Judgment.{Context, Judgment}
+use Rattle.rules.specs.Instance.{Instance}
+use Rattle.rules.specs.RuleTable.{premiseCount}
+use Rattle.rules.specs.Contexts.{parentOf, typeOf, context, ContextTable}
+use Rattle.rules.specs.Stated.{stated, Numbered, judgmentOf as plainJudgment}
+use Rattle.rules.specs.declared.judgments.LineJudgment.{LineJudgment}
+use Rattle.rules.proofs.ContextTableLaws.{same-context}
+use Rattle.sheets.specs.declared.lines.Line.{Line}
+use Rattle.sheets.specs.Layout.{contextsIn, linesIn, trailerWord, trailerOf, toLines, toContexts, toTerms}
+use Rattle.sheets.specs.Lines.{lineWord, lineOf, judgmentOf, premisesOf, citedBy, lineAt, statedAt, LineFollows}
+use Rattle.sheets.specs.Good.{trailerFor, LaidOut, LineOk, GoodLine, Good}
+use Rattle.sheets.specs.Accepted.{listed, statedBy}
+use Rattle.sheets.specs.Withdrawal.{without, Uses, lowerPremise, lowered, trailerLoses, oldPlace, newWord, linesStart, linesEnd, sheetWithout, Unused}
+use Rattle.sheets.proofs.TestLaws.{refutes, says-le, says-lt}
+use Rattle.sheets.proofs.WrittenLaws.{written-length, word-written, word-drop}
+use Rattle.sheets.proofs.AcceptedLaws.{stated-is}
+
+pub at-least : (i k : ℕ) → k ≤ i → ltb i k ≡ false
+at-least i k h = refutes (ltb i k) (says-lt i k) (λ m. omega arith)
+
+-- the old number of new line k
+up : ℕ → ℕ → ℕ
+up zero k = suc k
+up (suc n) zero = zero
+up (suc n) (suc k) = suc (up n k)
+
+up-before : (n k : ℕ) → k < n → up n k ≡ k
+unfolding up
+up-before zero k h = absurd (omega arith)
+up-before (suc n) zero h = refl
+up-before (suc n) (suc k) h = ap suc (up-before n k (omega arith))
+
+up-behind : (n k : ℕ) → n ≤ k → up n k ≡ suc k
+unfolding up
+up-behind zero k h = refl
+up-behind (suc n) zero h = absurd (omega arith)
+up-behind (suc n) (suc k) h = ap suc (up-behind n k (omega arith))
+
+pub lower-above : (n p : ℕ) → n < p → lowerPremise n p ≡ p - 1
+unfolding lowerPremise
+lower-above n p h = rw (lt-ltb n p h, lowerPremise)
+
+pub lower-upto : (n p : ℕ) → p ≤ n → lowerPremise n p ≡ p
+unfolding lowerPremise
+lower-upto n p h = rw (at-least n p h, lowerPremise)
+
+-- the new number of an old line, and back
+up-lower : (n p : ℕ) → (p ≡ n → ⊥) → up n (lowerPremise n p) ≡ p
+up-lower n p f = at (decLt n p)
+  where
+    at : Dec (n < p) → up n (lowerPremise n p) ≡ p
+    at (yes h) = ap (up n) (lower-above n p h) ∙ omega (arith, up-behind n (p - 1) (omega arith))
+    at (no h) = ap (up n) (lower-upto n p (omega arith)) ∙ up-before n p (omega arith)
+
+lower-below : (n m p : ℕ) → (p ≡ n → ⊥) → p < up n m → lowerPremise n p < m
+lower-below n m p f h = at (decLt n p) (decLt m n)
+  where
+    at : Dec (n < p) → Dec (m < n) → lowerPremise n p < m
+    at (yes a) (yes c) = absurd (omega (arith, up-before n m c))
+    at (yes a) (no c) = omega (arith, lower-above n p a, up-behind n m (omega arith))
+    at (no a) (yes c) = omega (arith, lower-upto n p (omega arith), up-before n m c)
+    at (no a) (no c) = omega (arith, lower-upto n p (omega arith))
+
+module _ {A : Type 0} where
+  listed-same : (f g : ℕ → A) (n : ℕ) → ((k : ℕ) → k < n → f k ≡ g k) → listed f n ≡ listed g n
+  unfolding listed
+  listed-same f g zero h = refl
+  listed-same f g (suc n) h = ap₂ _∷_ (h 0 (omega arith)) (listed-same (λ k. f (suc k)) (λ k. g (suc k)) n (λ k l. h (suc k) (omega arith)))
+
+  listed-without : (n : ℕ) (f : ℕ → A) (l : ℕ) → n ≤ l → listed (λ k. f (up n k)) l ≡ without n (listed f (suc l))
+  unfolding listed without up
+  listed-without zero f l h = refl
+  listed-without (suc n) f zero h = absurd (omega arith)
+  listed-without (suc n) f (suc l) h = ap (λ r. f 0 ∷ r) (listed-without n (λ i. f (suc i)) l (omega arith))
+
+  map-taken : (f g : ℕ → A) (d : ℕ → ℕ) (c : ℕ) (l : List ℕ) → ((j : ℕ) → j < length l → j < c → f (getD l j 0) ≡ g (d (getD l j 0)))
+      → map f (take c l) ≡ map g (take c (map d l))
+  map-taken f g d zero l h = refl
+  map-taken f g d (suc c) [] h = refl
+  map-taken f g d (suc c) (p ∷ l) h = ap₂ _∷_ (h 0 (omega arith) (omega arith)) (map-taken f g d c l (λ j a b. h (suc j) (omega arith) (omega arith)))
+
+-- a line with its premises lowered
+lowerLine : ℕ → Line → Line
+lowerLine n l =
+    record {
+      form = l .form;
+      rule = l .rule;
+      context = l .context;
+      s1 = l .s1;
+      s2 = l .s2;
+      s3 = l .s3;
+      p0 = lowerPremise n (l .p0);
+      p1 = lowerPremise n (l .p1);
+      p2 = lowerPremise n (l .p2);
+      p3 = lowerPremise n (l .p3);
+    }
+
+premise-lowered : (n : ℕ) (l : Line) (j : ℕ) → j < 4 → getD (premisesOf (lowerLine n l)) j 0 ≡ lowerPremise n (getD (premisesOf l) j 0)
+unfolding premisesOf lowerLine
+premise-lowered n l zero h = refl
+premise-lowered n l (suc zero) h = refl
+premise-lowered n l (suc (suc zero)) h = refl
+premise-lowered n l (suc (suc (suc zero))) h = refl
+premise-lowered n l (suc (suc (suc (suc j)))) h = absurd (omega arith)
+
+pub lowered-field : (n j w : ℕ) → j < 6 → lowered n j w ≡ w
+unfolding lowered
+lowered-field n j w h = let e : leb 6 j ≡ false = refutes (leb 6 j) (says-le 6 j) (λ m. omega arith) in rw (e, lowered)
+
+pub lowered-premise : (n j w : ℕ) → 6 ≤ j → lowered n j w ≡ lowerPremise n w
+unfolding lowered
+lowered-premise n j w h = let e : leb 6 j ≡ true = says-le 6 j .1 h in rw (e, lowered)
+
+-- a line's keeping of the layout carries over
+lower-ok : (l : Line) (n m T C : ℕ) → (Uses l n → ⊥) → LineOk l (up n m) T C → LineOk (lowerLine n l) m T C
+unfolding lowerLine judgmentOf
+lower-ok l n m T C f o =
+    record {
+      rule = o .rule;
+      form = o .form;
+      numbers = o .numbers;
+      unusedFirst = o .unusedFirst;
+      unusedSecond = o .unusedSecond;
+      unusedThird = o .unusedThird;
+      earlier = λ j h k.
+          subst (λ p. p < m) (sym (premise-lowered n l j h)) (lower-below n m (getD (premisesOf l) j 0) (λ e. f (j, h, k, e)) (o .earlier j h k));
+      unusedPremise = λ j h k.
+          premise-lowered n l j h ∙ ap (lowerPremise n) (o .unusedPremise j h k) ∙ lower-upto n 0 (omega arith);
+    }
+
+-- the same subjects that the form uses, in the same context
+said-same : (form : ℕ) (G H : Context) (a a′ b b′ A A′ : Term) → form ≤ 3 → G ≡ H → (1 ≤ form → a ≡ a′) → (2 ≤ form → b ≡ b′)
+    → (1 ≤ form → form ≤ 2 → A ≡ A′) → plainJudgment form G a b A ≡ plainJudgment form H a′ b′ A′
+unfolding plainJudgment
+said-same zero G H a a′ b b′ A A′ s e p q r = λ i. plainJudgment 0 (e i) a b A
+said-same (suc zero) G H a a′ b b′ A A′ s e p q r = λ i. plainJudgment 1 (e i) (p (omega arith) i) b (r (omega arith) (omega arith) i)
+said-same (suc (suc zero)) G H a a′ b b′ A A′ s e p q r = λ i. plainJudgment 2 (e i) (p (omega arith) i) (q (omega arith) i) (r (omega arith) (omega arith) i)
+said-same (suc (suc (suc zero))) G H a a′ b b′ A A′ s e p q r = λ i. plainJudgment 3 (e i) (p (omega arith) i) (q (omega arith) i) A
+said-same (suc (suc (suc (suc f)))) G H a a′ b b′ A A′ s e p q r = absurd (omega arith)
+
+-- the words of the new sheet, part by part
+module _ (b : List ℕ) (start end n i : ℕ) where
+  pub new-head : i < start → newWord b start end n i ≡ wordAt b i
+  unfolding newWord
+  new-head h = rw (lt-ltb i start h, newWord)
+
+  pub new-line : start ≤ i → i < end → newWord b start end n i ≡ lowered n ((i - start) % 10) (wordAt b (oldPlace start n i))
+  unfolding newWord
+  new-line h k = rw (at-least i start h, lt-ltb i end k, newWord)
+
+  pub new-trailer : start ≤ i → end ≤ i → newWord b start end n i ≡ wordAt b (i + 10) - trailerLoses (i - end)
+  unfolding newWord
+  new-trailer h k = rw (at-least i start h, at-least i end k, newWord)
+
+pub old-before : (start n i : ℕ) → i < start + 10 * n → oldPlace start n i ≡ i
+unfolding oldPlace
+old-before start n i h = rw (lt-ltb i (start + 10 * n) h, oldPlace)
+
+pub old-behind : (start n i : ℕ) → start + 10 * n ≤ i → oldPlace start n i ≡ i + 10
+unfolding oldPlace
+old-behind start n i h = rw (at-least i (start + 10 * n) h, oldPlace)
+
+old-line : (start n m j : ℕ) → j < 10 → oldPlace start n (start + (10 * m + j)) ≡ start + (10 * up n m + j)
+old-line start n m j h = at (decLt m n)
+  where
+    at : Dec (m < n) → oldPlace start n (start + (10 * m + j)) ≡ start + (10 * up n m + j)
+    at (yes l) = old-before start n (start + (10 * m + j)) (omega arith) ∙ omega (arith, up-before n m l)
+    at (no l) = old-behind start n (start + (10 * m + j)) (omega arith) ∙ omega (arith, up-behind n m (omega arith))
+
+module _ (b : List ℕ) (T C L n : ℕ) (g : Good b T C L) (there : n < L) where
+  abbrev new : List ℕ
+  new = sheetWithout b T C L n
+
+  pub new-long : length new ≡ toTerms T C (L - 1) + 16
+  unfolding sheetWithout
+  new-long = omega (arith, written-length (newWord b (linesStart T C) (linesEnd T C L) n) (linesEnd T C L + 8))
+
+  word-new : (i : ℕ) → i < linesEnd T C L + 8 → wordAt new i ≡ newWord b (linesStart T C) (linesEnd T C L) n i
+  unfolding sheetWithout
+  word-new i h = word-written (newWord b (linesStart T C) (linesEnd T C L) n) (linesEnd T C L + 8) i h
+
+  head-word : (i : ℕ) → i < linesStart T C → wordAt new i ≡ wordAt b i
+  head-word i h = word-new i (omega arith) ∙ new-head b (linesStart T C) (linesEnd T C L) n i h
+
+  -- the terms
+  row-same : (r j : ℕ) → r < T → j < 5 → word b r j ≡ word new r j
+  unfolding word
+  row-same r j h k = sym (head-word (5 * r + j) (omega arith))
+
+  term-same : (t : ℕ) → t < T → term b t ≡ term new t
+  term-same t h = same-term b T (downward b T (g .tables .terms)) new row-same t h
+
+  good-row : (r : ℕ) → r < T → GoodRow b r → GoodRow new r
+  unfolding tag
+  good-row r h o =
+      record {
+        low = subst (λ w. 1 ≤ w) (row-same r 0 h (omega arith)) (o .low);
+        high = subst (λ w. w ≤ 13) (row-same r 0 h (omega arith)) (o .high);
+        operands = λ j low high.
+            subst₂ (λ w t. w < limit (tagOf t) r j) (row-same r j h (omega arith)) (row-same r 0 h (omega arith)) (o .operands j low high);
+      }
+
+  terms : TermTable new T
+  terms =
+      let t = g .tables .terms in
+      record {
+        whole = omega (arith, new-long);
+        rows = λ r h. good-row r h (t .rows r h);
+        distinct = λ r s h k e. t .distinct r s h k (λ j l. row-same r j h l ∙ e j l ∙ sym (row-same s j k l));
+        sizes = λ r h. subst (λ u. size u ≤ 65535) (term-same r h) (t .sizes r h);
+      }
+
+  -- the contexts
+  context-word : (i : ℕ) → i < 2 * C → wordAt (contextsIn b T) i ≡ wordAt (contextsIn new T) i
+  unfolding contextsIn
+  context-word i h =
+      word-drop b (10 * T) (5 * T) i (omega arith) ∙ sym (word-drop new (10 * T) (5 * T) i (omega arith) ∙ head-word (5 * T + i) (omega arith))
+
+  parent-same : (k : ℕ) → 1 ≤ k → k ≤ C → parentOf (contextsIn b T) k ≡ parentOf (contextsIn new T) k
+  unfolding parentOf
+  parent-same k low high = context-word (2 * (k - 1)) (omega arith)
+
+  type-same : (k : ℕ) → 1 ≤ k → k ≤ C → typeOf (contextsIn b T) k ≡ typeOf (contextsIn new T) k
+  unfolding typeOf
+  type-same k low high = context-word (2 * (k - 1) + 1) (omega arith)
+
+  context-same : (k : ℕ) → k ≤ C → context b (contextsIn b T) k ≡ context new (contextsIn new T) k
+  context-same k h =
+      let t = g .tables .contexts in
+      same-context b (contextsIn b T) C (λ m low high. t .rows m low high .earlier) new (contextsIn new T) parent-same
+      (λ m low high. term-same (typeOf (contextsIn b T) m) (t .rows m low high .known) ∙ ap (term new) (type-same m low high)) k h
+
+  contexts : ContextTable (contextsIn new T) T C
+  unfolding contextsIn
+  contexts =
+      let t = g .tables .contexts in
+      record {
+        whole = omega (arith, new-long, length-drop (10 * T) new);
+        rows = λ k low high.
+            record {
+              earlier = subst (λ p. p < k) (parent-same k low high) (t .rows k low high .earlier);
+              known = subst (λ p. p < T) (type-same k low high) (t .rows k low high .known);
+            };
+        distinct = λ k m a c d e s.
+            t .distinct k m a c d e
+            (parent-same k a c ∙ s .0 ∙ sym (parent-same m d e), type-same k a c ∙ s .1 ∙ sym (type-same m d e));
+      }
+
+  -- the trailer
+  trailer-word : (i loses : ℕ) → i < 8 → trailerLoses i ≡ loses → trailerWord new i ≡ trailerWord b i - loses
+  unfolding trailerWord
+  trailer-word i loses h e =
+      word-drop new (length new - 16) (linesEnd T C L) i (omega (arith, new-long)) ∙ word-new (linesEnd T C L + i) (omega arith)
+      ∙ new-trailer b (linesStart T C) (linesEnd T C L) n (linesEnd T C L + i) (omega arith) (omega arith)
+      ∙ (λ k. wordAt b (place k) - (ap trailerLoses at ∙ e) k)
+      ∙ ap (λ w. w - loses) (sym (word-drop b (length b - 16) (linesStart T C + 10 * L) i (omega (arith, g .tables .laid .long))))
+    where
+      place : linesEnd T C L + i + 10 ≡ linesStart T C + 10 * L + i
+      place = omega arith
+
+      at : linesEnd T C L + i - linesEnd T C L ≡ i
+      at = omega arith
+
+  trailer-is : trailerOf new ≡ trailerFor T C (L - 1)
+  unfolding trailerOf trailerFor trailerLoses
+  trailer-is =
+      let t : trailerOf b ≡ trailerFor T C L = g .tables .laid .trailer in
+      let e0 : trailerWord b 0 ≡ T = ap (λ r. r .terms) t in
+      let e1 : trailerWord b 1 ≡ C = ap (λ r. r .contexts) t in
+      let e2 : trailerWord b 2 ≡ L = ap (λ r. r .lines) t in
+      let e3 : trailerWord b 3 ≡ 1 = ap (λ r. r .edition) t in
+      let e4 : trailerWord b 4 ≡ toTerms T C L = ap (λ r. r .first) t in
+      let e5 : trailerWord b 5 ≡ toContexts C L = ap (λ r. r .second) t in
+      let e6 : trailerWord b 6 ≡ toLines L = ap (λ r. r .third) t in
+      let e7 : trailerWord b 7 ≡ 0x4C44 = ap (λ r. r .mark) t in
+      let f0 : trailerWord new 0 ≡ T = omega (arith, trailer-word 0 0 (omega arith) refl) in
+      let f1 : trailerWord new 1 ≡ C = omega (arith, trailer-word 1 0 (omega arith) refl) in
+      let f2 : trailerWord new 2 ≡ L - 1 = omega (arith, trailer-word 2 1 (omega arith) refl) in
+      let f3 : trailerWord new 3 ≡ 1 = omega (arith, trailer-word 3 0 (omega arith) refl) in
+      let f4 : trailerWord new 4 ≡ toTerms T C (L - 1) = omega (arith, trailer-word 4 20 (omega arith) refl) in
+      let f5 : trailerWord new 5 ≡ toContexts C (L - 1) = omega (arith, trailer-word 5 20 (omega arith) refl) in
+      let f6 : trailerWord new 6 ≡ toLines (L - 1) = omega (arith, trailer-word 6 20 (omega arith) refl) in
+      let f7 : trailerWord new 7 ≡ 0x4C44 = omega (arith, trailer-word 7 0 (omega arith) refl) in
+      λ i. record { terms = f0 i; contexts = f1 i; lines = f2 i; edition = f3 i; first = f4 i; second = f5 i; third = f6 i; mark = f7 i }
+
+  laid : LaidOut new T C (L - 1)
+  laid =
+      let l = g .tables .laid in
+      record { trailer = trailer-is; fewTerms = l .fewTerms; fewContexts = l .fewContexts; fewLines = omega (arith, l .fewLines); long = new-long }
+
+  -- the lines
+  line-word : (m j : ℕ) → m < L - 1 → j < 10 → lineWord (linesIn new T C) m j ≡ lowered n j (lineWord (linesIn b T C) (up n m) j)
+  unfolding lineWord linesIn
+  line-word m j h k =
+      word-drop new (10 * T + 4 * C) (linesStart T C) (10 * m + j) (omega arith) ∙ word-new (linesStart T C + (10 * m + j)) (omega arith)
+      ∙ new-line b (linesStart T C) (linesEnd T C L) n (linesStart T C + (10 * m + j)) (omega arith) (omega arith)
+      ∙ (λ i. lowered n (at i) (place i))
+    where
+      at : (linesStart T C + (10 * m + j) - linesStart T C) % 10 ≡ j
+      at = omega arith
+
+      place : wordAt b (oldPlace (linesStart T C) n (linesStart T C + (10 * m + j))) ≡ wordAt (drop (10 * T + 4 * C) b) (10 * up n m + j)
+      place =
+          ap (wordAt b) (old-line (linesStart T C) n m j k)
+          ∙ sym (word-drop b (10 * T + 4 * C) (linesStart T C) (10 * up n m + j) (omega arith))
+
+  line-new : (m : ℕ) → m < L - 1 → lineAt new T C m ≡ lowerLine n (lineAt b T C (up n m))
+  unfolding lineAt lineOf lowerLine
+  line-new m h =
+      λ i. record {
+        form = field 0 (omega arith) i;
+        rule = field 1 (omega arith) i;
+        context = field 2 (omega arith) i;
+        s1 = field 3 (omega arith) i;
+        s2 = field 4 (omega arith) i;
+        s3 = field 5 (omega arith) i;
+        p0 = premise 6 (omega arith) (omega arith) i;
+        p1 = premise 7 (omega arith) (omega arith) i;
+        p2 = premise 8 (omega arith) (omega arith) i;
+        p3 = premise 9 (omega arith) (omega arith) i;
+      }
+    where
+      field : (j : ℕ) → j < 6 → lineWord (linesIn new T C) m j ≡ lineWord (linesIn b T C) (up n m) j
+      field j k = line-word m j h (omega arith) ∙ lowered-field n j _ k
+
+      premise : (j : ℕ) → 6 ≤ j → j < 10 → lineWord (linesIn new T C) m j ≡ lowerPremise n (lineWord (linesIn b T C) (up n m) j)
+      premise j l k = line-word m j h k ∙ lowered-premise n j _ l
+
+  up-within : (m : ℕ) → m < L - 1 → up n m < L
+  up-within m h = at (decLt m n)
+    where
+      at : Dec (m < n) → up n m < L
+      at (yes l) = omega (arith, up-before n m l)
+      at (no l) = omega (arith, up-behind n m (omega arith))
+
+  stated-same : (j : LineJudgment) → Numbered T C j → stated b (contextsIn b T) j ≡ stated new (contextsIn new T) j
+  unfolding stated
+  stated-same j k =
+      said-same (j .form) _ _ _ _ _ _ _ _ (k .form) (context-same (j .context) (k .within)) (λ h. term-same (j .s1) (k .first h))
+      (λ h. term-same (j .s2) (k .second h)) (λ h l. term-same (j .s3) (k .third h l))
+
+  states : (m : ℕ) → m < L - 1 → statedAt new T C m ≡ statedAt b T C (up n m)
+  unfolding statedAt judgmentOf lowerLine
+  states m h =
+      ap (λ l. stated new (contextsIn new T) (judgmentOf l)) (line-new m h)
+      ∙ sym (stated-same (judgmentOf (lineAt b T C (up n m))) (g .lines (up n m) (up-within m h) .ok .numbers))
+
+  module _ (unused : Unused (linesIn b T C) L n) where
+    not-used : (m : ℕ) → m < L - 1 → Uses (lineAt b T C (up n m)) n → ⊥
+    unfolding lineAt
+    not-used m h u = at (decLt m n)
+      where
+        at : Dec (m < n) → ⊥
+        at (yes l) = omega (arith, up-before n m l, g .lines (up n m) (up-within m h) .ok .earlier (u .0) (u .1) (u .2), u .3)
+        at (no l) = unused (up n m) (omega (arith, up-behind n m (omega arith))) (up-within m h) u
+
+    line-follows : (m : ℕ) → m < L - 1
+        → Instance (lineAt b T C (up n m) .rule) (map (statedAt new T C) (citedBy (lowerLine n (lineAt b T C (up n m))))) (statedAt new T C m)
+    unfolding LineFollows citedBy premisesOf lowerLine
+    line-follows m h =
+        subst₂ (Instance (l .rule)) (map-taken (statedAt b T C) (statedAt new T C) (lowerPremise n) (premiseCount (l .rule)) (premisesOf l) cited)
+        (sym (states m h)) (o .follows)
+      where
+        l : Line
+        l = lineAt b T C (up n m)
+
+        o : GoodLine b T C (up n m)
+        o = g .lines (up n m) (up-within m h)
+
+        cited : (j : ℕ) → j < 4 → j < premiseCount (l .rule) → statedAt b T C (getD (premisesOf l) j 0) ≡ statedAt new T C (lowerPremise n (getD (premisesOf l) j 0))
+        cited j a c =
+            let p = getD (premisesOf l) j 0 in
+            let away : p ≡ n → ⊥ = λ e. not-used m h (j, a, c, e) in
+            sym (states (lowerPremise n p) (omega (arith, lower-below n m p away (o .ok .earlier j a c))) ∙ ap (statedAt b T C) (up-lower n p away))
+
+    pub good-without : Good new T C (L - 1)
+    unfolding LineFollows lowerLine
+    good-without =
+        record {
+          tables = record { laid = laid; terms = terms; contexts = contexts };
+          lines = λ m h.
+              record {
+                ok = subst (λ l. LineOk l m T C) (sym (line-new m h)) (lower-ok (lineAt b T C (up n m)) n m T C (not-used m h) (g .lines (up n m) (up-within m h) .ok));
+                follows = subst (λ l. Instance (l .rule) (map (statedAt new T C) (citedBy l)) (statedAt new T C m)) (sym (line-new m h)) (line-follows m h);
+              };
+        }
+
+    pub stated-without : statedBy new ≡ without n (statedBy b)
+    stated-without =
+        stated-is good-without ∙ listed-same (statedAt new T C) (λ k. statedAt b T C (up n k)) (L - 1) states
+        ∙ listed-without n (statedAt b T C) (L - 1) (omega arith) ∙ ap (λ k. without n (listed (statedAt b T C) k)) all ∙ ap (without n) (sym (stated-is g))
+      where
+        all : suc (L - 1) ≡ L
+        all = omega arith

@@ -1,0 +1,262 @@
+-- Withdrawal, on a sheet that admission accepts: each answer is given exactly if it means what document 01 says. On any other sheet
+-- admission's refusal is answered. Demand 3 (c).
+-- Assumes nothing.
+use mathlib.Core.Path.{_≡_, refl, sym, _∙_, ap, subst}
+use mathlib.Core.Logic.{_↔_, _⊎_, inl, inr, ⊎-elim}
+use mathlib.Core.Bool.{Bool, true, false, _&&_, _||_}
+use mathlib.Core.List.{List}
+use Prim.Native.Nat.{ℕ, zero, suc, _+_, _-_, _≤_, _<_}
+use native.Mathlib.Decide.{decLt}
+use native.Mathlib.Nat.{eq-or-lt-of-le}
+use native.Mathlib.Omega.{arith}
+use lib.Dec.{ltb, eqb}
+use lib.ListN.{length, getD, take, drop}
+use lib.Seq.{take-at}
+use borrow.Author.Tests.{lt-ltb}
+use Rattle.terms.specs.Decides.{Decides}
+use Rattle.terms.specs.Sizes.{over}
+use Rattle.terms.proofs.Tests.{refuted, decides-via, decides-both}
+use Rattle.rules.specs.RuleTable.{premiseCount}
+use Rattle.sheets.specs.declared.lines.Line.{Line}
+use Rattle.sheets.specs.declared.admission.Admission.{Admission}
+use Rattle.sheets.specs.declared.admission.Admission.the-variants.{Accepted, Refused as notAdmitted}
+use Rattle.sheets.specs.declared.withdrawal.Withdrawal.{Withdrawal}
+use Rattle.sheets.specs.declared.withdrawal.Withdrawal.the-variants.{Written, Refused}
+use Rattle.sheets.specs.Layout.{linesIn}
+use Rattle.sheets.specs.Lines.{lineOf, premisesOf}
+use Rattle.sheets.specs.Admission.{admitOf}
+use Rattle.sheets.specs.Good.{trailerFor, Good}
+use Rattle.sheets.specs.Accepted.{IsAccepted, statedBy}
+use Rattle.sheets.specs.Withdrawal.{without, uses, Uses, firstUseFrom, firstUse, newLength, afterUse, afterLine, withdrawAfter, withdrawOf, sheetWithout, withoutLine, outFrom, outAfter, LowestUse, Unused, WithdrawalMeans, missing, used, short, written, Withdrawn}
+use Rattle.sheets.proofs.TestLaws.{either, says-lt, says-eq}
+use Rattle.sheets.proofs.AdmissionLaws.{accepted-is}
+use Rattle.sheets.proofs.AcceptedLaws.{good-accepted}
+use Rattle.sheets.proofs.SheetWithout.{at-least, new-long, good-without, stated-without}
+
+decides-either : {P Q : Type 0} (r s : Bool) → Decides r P → Decides s Q → Decides (r || s) (P ⊎ Q)
+decides-either true s d e = (λ h. inl (d .0 refl), λ h. refl)
+decides-either false s d e = (λ h. inr (e .0 h), ⊎-elim (λ p. absurd (refuted false d refl p)) (λ q. e .1 q))
+
+-- premise j is used and is n
+abbrev UsesAt : Line → ℕ → ℕ → Type 0
+UsesAt l n j = (j < premiseCount (l .rule)) × (getD (premisesOf l) j 0 ≡ n)
+
+four-uses : (l : Line) (n : ℕ) → (((UsesAt l n 0 ⊎ UsesAt l n 1) ⊎ UsesAt l n 2) ⊎ UsesAt l n 3) ↔ Uses l n
+four-uses l n = (
+  ⊎-elim (⊎-elim (⊎-elim (λ u. (0, omega arith, u .0, u .1)) (λ u. (1, omega arith, u .0, u .1))) (λ u. (2, omega arith, u .0, u .1))) (λ u. (3, omega arith, u .0, u .1)),
+  λ u. to (u .0) (u .1) (u .2, u .3),
+)
+  where
+    to : (j : ℕ) → j < 4 → UsesAt l n j → ((UsesAt l n 0 ⊎ UsesAt l n 1) ⊎ UsesAt l n 2) ⊎ UsesAt l n 3
+    to zero h u = inl (inl (inl u))
+    to (suc zero) h u = inl (inl (inr u))
+    to (suc (suc zero)) h u = inl (inr u)
+    to (suc (suc (suc zero))) h u = inr u
+    to (suc (suc (suc (suc j)))) h u = absurd (omega arith)
+
+-- the test answers for the use
+pub uses-says : (l : Line) (n : ℕ) → Decides (uses l n) (Uses l n)
+unfolding uses premisesOf
+uses-says l n =
+    decides-via (uses l n) (four-uses l n)
+    (decides-either (at 0 (l .p0) || at 1 (l .p1) || at 2 (l .p2)) (at 3 (l .p3))
+    (decides-either (at 0 (l .p0) || at 1 (l .p1)) (at 2 (l .p2))
+    (decides-either (at 0 (l .p0)) (at 1 (l .p1)) (says 0 (l .p0)) (says 1 (l .p1))) (says 2 (l .p2))) (says 3 (l .p3)))
+  where
+    at : ℕ → ℕ → Bool
+    at j p = ltb j (premiseCount (l .rule)) && eqb p n
+
+    says : (j p : ℕ) → Decides (at j p) ((j < premiseCount (l .rule)) × (p ≡ n))
+    says j p = decides-both (ltb j (premiseCount (l .rule))) (eqb p n) (says-lt j (premiseCount (l .rule))) (says-eq p n)
+
+module _ (lines : List ℕ) (n : ℕ) where
+  -- the ways through one line
+  module _ (more k : ℕ) where
+    pub use-here : uses (lineOf lines k) n ≡ true → firstUseFrom (suc more) lines n k ≡ k
+    unfolding firstUseFrom
+    use-here e = rw (e, firstUseFrom)
+
+    pub use-next : uses (lineOf lines k) n ≡ false → firstUseFrom (suc more) lines n k ≡ firstUseFrom more lines n (suc k)
+    unfolding firstUseFrom
+    use-next e = rw (e, firstUseFrom)
+
+  -- what the search of the next lines answers
+  record FirstFrom (more k r : ℕ) : Type 0 where
+    low : k ≤ r
+    high : r ≤ k + more
+    none : (i : ℕ) → k ≤ i → i < r → Uses (lineOf lines i) n → ⊥
+    has : r < k + more → Uses (lineOf lines r) n
+
+  first-from : (more k : ℕ) → FirstFrom more k (firstUseFrom more lines n k)
+  unfolding firstUseFrom
+  first-from zero k = record { low = omega arith; high = omega arith; none = λ i a c. absurd (omega arith); has = λ h. absurd (omega arith) }
+  first-from (suc more) k = at (first-from more (suc k)) (either _)
+    where
+      at : FirstFrom more (suc k) (firstUseFrom more lines n (suc k)) → (uses (lineOf lines k) n ≡ true) ⊎ (uses (lineOf lines k) n ≡ false)
+          → FirstFrom (suc more) k (firstUseFrom (suc more) lines n k)
+      at rest (inl e) =
+          subst (FirstFrom (suc more) k) (sym (use-here more k e))
+          (record { low = omega arith; high = omega arith; none = λ i a c. absurd (omega arith); has = λ h. uses-says _ n .0 e })
+      at rest (inr e) =
+          subst (FirstFrom (suc more) k) (sym (use-next more k e))
+          (record {
+            low = omega (arith, rest .low);
+            high = omega (arith, rest .high);
+            none = λ i a c. from i (eq-or-lt-of-le a) c;
+            has = λ h. rest .has (omega arith);
+          })
+        where
+          from : (i : ℕ) → (k ≡ i) ⊎ (k < i) → i < firstUseFrom more lines n (suc k) → Uses (lineOf lines i) n → ⊥
+          from i (inl f) c = subst (λ m. Uses (lineOf lines m) n → ⊥) f (refuted _ (uses-says _ n) e)
+          from i (inr l) c = rest .none i l c
+
+  module _ (L : ℕ) (h : n < L) where
+    first : FirstFrom (L - suc n) (suc n) (firstUse lines L n)
+    unfolding firstUse
+    first = first-from (L - suc n) (suc n)
+
+    pub use-lowest : firstUse lines L n < L → LowestUse lines L n (firstUse lines L n)
+    use-lowest l =
+        record { later = omega (arith, first .low); within = l; uses = first .has (omega arith); lowest = λ k a c. first .none k (omega arith) c }
+
+    pub use-none : L ≤ firstUse lines L n → Unused lines L n
+    use-none l k a c = first .none k (omega arith) (omega arith)
+
+    pub lowest-use : (p : ℕ) → LowestUse lines L n p → firstUse lines L n ≡ p
+    lowest-use p u = at (decLt (firstUse lines L n) p) (decLt p (firstUse lines L n))
+      where
+        at : Dec (firstUse lines L n < p) → Dec (p < firstUse lines L n) → firstUse lines L n ≡ p
+        at (yes l) d = absurd (u .lowest (firstUse lines L n) (omega (arith, first .low)) l (first .has (omega (arith, u .within))))
+        at (no l) (yes m) = absurd (first .none p (omega (arith, u .later)) m (u .uses))
+        at (no l) (no m) = omega arith
+
+    pub none-use : Unused lines L n → L ≤ firstUse lines L n
+    none-use f = at (decLt (firstUse lines L n) L)
+      where
+        at : Dec (firstUse lines L n < L) → L ≤ firstUse lines L n
+        at (yes l) = absurd (f (firstUse lines L n) (omega (arith, first .low)) l (first .has (omega arith)))
+        at (no l) = omega arith
+
+-- the ways through 11, 12 and 13
+module _ (bytes : List ℕ) (T C L n room : ℕ) where
+  pub line-missing : L ≤ n → afterLine bytes T C L n room ≡ Refused 11 n
+  unfolding afterLine
+  line-missing h = rw (at-least n L h, afterLine)
+
+  pub line-there : n < L → afterLine bytes T C L n room ≡ afterUse T C L room (firstUse (linesIn bytes T C) L n)
+  unfolding afterLine
+  line-there h = rw (lt-ltb n L h, afterLine)
+
+  pub use-refused : (p : ℕ) → p < L → afterUse T C L room p ≡ Refused 12 p
+  unfolding afterUse
+  use-refused p h = rw (lt-ltb p L h, afterUse)
+
+  pub room-refused : (p : ℕ) → L ≤ p → room < newLength T C L → afterUse T C L room p ≡ Refused 13 0
+  unfolding afterUse
+  room-refused p h k = rw (at-least p L h, lt-ltb room (newLength T C L) k, afterUse)
+
+  pub room-enough : (p : ℕ) → L ≤ p → newLength T C L ≤ room → afterUse T C L room p ≡ Written (newLength T C L)
+  unfolding afterUse
+  room-enough p h k = rw (at-least p L h, at-least room (newLength T C L) k, afterUse)
+
+  means : WithdrawalMeans bytes T C L n room (afterLine bytes T C L n room)
+  means = at (decLt n L)
+    where
+      Means : Withdrawal → Type 0
+      Means = WithdrawalMeans bytes T C L n room
+
+      place : ℕ
+      place = firstUse (linesIn bytes T C) L n
+
+      on-room : n < L → L ≤ place → Dec (room < newLength T C L) → Means (afterUse T C L room place)
+      on-room h l (yes k) = subst Means (sym (room-refused place l k)) (short h (use-none (linesIn bytes T C) n L h l) k)
+      on-room h l (no k) = subst Means (sym (room-enough place l (omega arith))) (written h (use-none (linesIn bytes T C) n L h l) (omega arith))
+
+      on-use : n < L → Dec (place < L) → Means (afterUse T C L room place)
+      on-use h (yes l) = subst Means (sym (use-refused place l)) (used h (use-lowest (linesIn bytes T C) n L h l))
+      on-use h (no l) = on-room h (omega arith) (decLt room (newLength T C L))
+
+      at : Dec (n < L) → Means (afterLine bytes T C L n room)
+      at (yes h) = subst Means (sym (line-there h)) (on-use h (decLt place L))
+      at (no h) = subst Means (sym (line-missing (omega arith))) (missing (omega arith))
+
+  back : {a : Withdrawal} → WithdrawalMeans bytes T C L n room a → afterLine bytes T C L n room ≡ a
+  back (missing h) = line-missing h
+  back (used {p} h u) =
+      let e = lowest-use (linesIn bytes T C) n L h p u in
+      line-there h ∙ ap (afterUse T C L room) e ∙ use-refused p (u .within)
+  back (short h u k) = line-there h ∙ room-refused _ (none-use (linesIn bytes T C) n L h u) k
+  back (written h u k) = line-there h ∙ room-enough _ (none-use (linesIn bytes T C) n L h u) k
+
+module _ (bytes : List ℕ) (n work room : ℕ) where
+  -- a refusal of admission is handed on
+  pub withdraw-refused : (number place : ℕ) → admitOf bytes work ≡ notAdmitted number place → withdrawOf bytes n work room ≡ Refused number place
+  unfolding withdrawOf withdrawAfter
+  withdraw-refused number place e = ap (withdrawAfter bytes n room) e
+
+  module _ (T C L : ℕ) (accepted : admitOf bytes work ≡ Accepted T C L) where
+    pub withdrawn-by : withdrawOf bytes n work room ≡ afterLine bytes T C L n room
+    unfolding withdrawOf withdrawAfter
+    withdrawn-by = ap (withdrawAfter bytes n room) accepted
+
+    -- on an accepted sheet an answer is given exactly if it means what it should
+    pub withdrawn-is : (a : Withdrawal) → (withdrawOf bytes n work room ≡ a) ↔ WithdrawalMeans bytes T C L n room a
+    withdrawn-is a = (
+      λ e. subst (WithdrawalMeans bytes T C L n room) (sym withdrawn-by ∙ e) (means bytes T C L n room),
+      λ m. withdrawn-by ∙ back bytes T C L n room m,
+    )
+
+    -- number by number
+    pub missing-is : (withdrawOf bytes n work room ≡ Refused 11 n) ↔ (L ≤ n)
+    missing-is = (λ e. from (withdrawn-is (Refused 11 n) .0 e), λ h. withdrawn-is (Refused 11 n) .1 (missing h))
+      where
+        from : {p : ℕ} → WithdrawalMeans bytes T C L n room (Refused 11 p) → L ≤ n
+        from (missing h) = h
+
+    pub used-is : (p : ℕ) → (withdrawOf bytes n work room ≡ Refused 12 p) ↔ ((n < L) × LowestUse (linesIn bytes T C) L n p)
+    used-is p = (λ e. from (withdrawn-is (Refused 12 p) .0 e), λ h. withdrawn-is (Refused 12 p) .1 (used (h .0) (h .1)))
+      where
+        from : WithdrawalMeans bytes T C L n room (Refused 12 p) → (n < L) × LowestUse (linesIn bytes T C) L n p
+        from (used h u) = (h, u)
+
+    pub short-is : (withdrawOf bytes n work room ≡ Refused 13 0) ↔ ((n < L) × Unused (linesIn bytes T C) L n × (room < newLength T C L))
+    short-is = (λ e. from (withdrawn-is (Refused 13 0) .0 e), λ h. withdrawn-is (Refused 13 0) .1 (short (h .0) (h .1) (h .2)))
+      where
+        from : {p : ℕ} → WithdrawalMeans bytes T C L n room (Refused 13 p) → (n < L) × Unused (linesIn bytes T C) L n × (room < newLength T C L)
+        from (short h u k) = (h, u, k)
+
+    pub written-is : (withdrawOf bytes n work room ≡ Written (newLength T C L)) ↔ ((n < L) × Unused (linesIn bytes T C) L n × (newLength T C L ≤ room))
+    written-is = (λ e. from (withdrawn-is _ .0 e), λ h. withdrawn-is _ .1 (written (h .0) (h .1) (h .2)))
+      where
+        from : {l : ℕ} → WithdrawalMeans bytes T C L n room (Written l) → (n < L) × Unused (linesIn bytes T C) L n × (newLength T C L ≤ room)
+        from (written h u k) = (h, u, k)
+
+-- demand 3 (c)
+module _ (bytes : List ℕ) (n work : ℕ) (before : List ℕ) where
+  module _ (T C L : ℕ) (g : Good bytes T C L) where
+    pub without-counted : withoutLine bytes n ≡ sheetWithout bytes T C L n
+    unfolding withoutLine trailerFor
+    without-counted = ap (λ t. sheetWithout bytes (t .terms) (t .contexts) (t .lines) n) (g .tables .laid .trailer)
+
+    on-means : {a : Withdrawal} → WithdrawalMeans bytes T C L n (length before) a → Withdrawn bytes n (outFrom bytes n before a) a
+    unfolding Withdrawn outFrom newLength
+    on-means (missing h) = tt
+    on-means (used h u) = tt
+    on-means (short h u k) = tt
+    on-means (written h u k) = (
+      good-accepted g,
+      subst IsAccepted (sym new) (good-accepted (good-without bytes T C L n g h u)),
+      ap statedBy new ∙ stated-without bytes T C L n g h u,
+    )
+      where
+        new : take (newLength T C L) (over (withoutLine bytes n) before) ≡ sheetWithout bytes T C L n
+        new = take-at (withoutLine bytes n) (drop (length (withoutLine bytes n)) before) (newLength T C L) (ap length without-counted ∙ new-long bytes T C L n g h) ∙ without-counted
+
+  on-admission : (a : Admission) → admitOf bytes work ≡ a → Withdrawn bytes n (outFrom bytes n before (withdrawAfter bytes n (length before) a)) (withdrawAfter bytes n (length before) a)
+  unfolding Withdrawn withdrawAfter
+  on-admission (notAdmitted number place) e = tt
+  on-admission (Accepted T C L) e = on-means T C L (accepted-is bytes work T C L .0 e .0) (means bytes T C L n (length before))
+
+  pub withdrawal-keeps : Withdrawn bytes n (outAfter bytes n work before) (withdrawOf bytes n work (length before))
+  unfolding outAfter withdrawOf
+  withdrawal-keeps = on-admission (admitOf bytes work) refl

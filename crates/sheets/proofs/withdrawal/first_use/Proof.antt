@@ -1,0 +1,59 @@
+-- The invariant is that the search of the remaining lines answers for the whole.
+use mathlib.Core.Path.{sym, subst}
+use Prim.Native.Nat.{_-_}
+use Rattle.sheets.specs.Lines.{lineOf}
+use Rattle.sheets.specs.Withdrawal.{KnownRule}
+use Rattle.sheets.proofs.WithdrawalAnswers.{Searching, searching-start, searching-here, searching-next, searching-end}
+use borrow.Author.Needs.{needs}
+use Rattle.sheets.proofs.withdrawal.first_use.Statement.{statement}
+use Rattle.sheets.proofs.withdrawal.first_use.Tie as tie
+
+abbrev Inv-loop : tie.InvT-loop
+Inv-loop lines count n k₀ k = Searching lines count n k
+
+abbrev μ-loop : tie.MeasureT-loop
+μ-loop lines count n k₀ k = count - k
+
+add-k : tie.Need-add-k Inv-loop μ-loop
+add-k c = search needs
+
+loop-holds : tie.Need-loop-holds Inv-loop μ-loop
+loop-holds c = searching-start _ _ _ (c .before .pre .1)
+
+read-line-requires : tie.Need-read-line-requires Inv-loop μ-loop
+read-line-requires c κs = search needs
+
+uses-line-requires : tie.Need-uses-line-requires Inv-loop μ-loop
+unfolding lineOf
+uses-line-requires c κs = subst KnownRule (sym (c .read-line .ensures)) (c .before .before .before .before .pre .2 _ (c .before .loop-test .taken))
+
+returns : tie.Need-returns Inv-loop μ-loop
+returns c = searching-here _ _ _ _ (c .before .before .before .before .loop .inv) _ _ (c .before .before .before .loop-test .taken) (c .before .before .read-line .ensures) (c .before .uses-line .ensures) (c .if1 .taken)
+
+add-k-2 : tie.Need-add-k-2 Inv-loop μ-loop
+add-k-2 c = search needs
+
+loop-less : tie.Need-loop-less Inv-loop μ-loop
+loop-less c = search needs
+
+loop-again : tie.Need-loop-again Inv-loop μ-loop
+loop-again c = searching-next _ _ _ _ (c .before .before .before .before .loop .inv) _ _ (c .before .before .before .loop-test .taken) (c .before .before .read-line .ensures) (c .before .uses-line .ensures) (c .if1 .left)
+
+returns-2 : tie.Need-returns-2 Inv-loop μ-loop
+returns-2 c = searching-end _ _ _ _ (c .before .loop .inv) (c .loop-test .left)
+
+pub first-use-spec : {M : Type 1} → statement M
+first-use-spec =
+    tie.close
+    (tie.spec
+    Inv-loop
+    μ-loop
+    add-k
+    loop-holds
+    read-line-requires
+    uses-line-requires
+    returns
+    add-k-2
+    loop-less
+    loop-again
+    returns-2)

@@ -1,0 +1,129 @@
+use Rattle.sheets.specs.Withdrawal.{newLength}
+use Rattle.sheets.proofs.WithdrawalAnswers.{known-lines, answer-11, answer-12, answer-13, answer-written}
+use borrow.Author.Needs.{needs}
+use native.Mathlib.Omega.{arith}
+use Rattle.sheets.proofs.withdrawal.withdraw_line.Statement.{statement}
+use Rattle.sheets.proofs.withdrawal.withdraw_line.Tie as tie
+
+returns : tie.Need-returns
+returns c = answer-11 _ _ _ _ _ (c .before .before .before .pre) _ (c .if1 .taken)
+
+mul-after-contexts : tie.Need-mul-after-contexts
+mul-after-contexts c = omega (arith, c .before .before .before .pre .tables .laid)
+
+mul-after-contexts-2 : tie.Need-mul-after-contexts-2
+mul-after-contexts-2 c = omega (arith, c .before .before .before .pre .tables .laid)
+
+add-after-contexts : tie.Need-add-after-contexts
+add-after-contexts c = omega (arith, c .before .before .before .pre .tables .laid)
+
+sub-first-use : tie.Need-sub-first-use
+sub-first-use c = omega (arith, c .before .before .before .pre .tables .laid)
+
+part-first-use-start : tie.Need-part-first-use-start
+part-first-use-start c = omega (arith, c .before .before .before .pre .tables .laid)
+
+part-first-use-end : tie.Need-part-first-use-end
+part-first-use-end c = search needs
+
+first-use-requires : tie.Need-first-use-requires
+first-use-requires c κs = known-lines _ _ _ _ _ (c .before .before .before .before .pre) (c .before .if1 .left)
+
+returns-2 : tie.Need-returns-2
+returns-2 c = answer-12 _ _ _ _ _ (c .before .before .before .before .before .before .pre) _ (c .before .before .before .if1 .left) _ (c .before .first-use .ensures) (c .if2 .taken)
+
+mul-length : tie.Need-mul-length
+mul-length c = omega (arith, c .before .before .before .before .before .before .pre .tables .laid, c .before .before .before .if1 .left)
+
+mul-length-2 : tie.Need-mul-length-2
+mul-length-2 c = omega (arith, c .before .before .before .before .before .before .pre .tables .laid, c .before .before .before .if1 .left)
+
+add-length : tie.Need-add-length
+add-length c = omega (arith, c .before .before .before .before .before .before .pre .tables .laid, c .before .before .before .if1 .left)
+
+sub-length : tie.Need-sub-length
+sub-length c = omega (arith, c .before .before .before .before .before .before .pre .tables .laid, c .before .before .before .if1 .left)
+
+mul-length-3 : tie.Need-mul-length-3
+mul-length-3 c = omega (arith, c .before .before .before .before .before .before .pre .tables .laid, c .before .before .before .if1 .left)
+
+add-length-2 : tie.Need-add-length-2
+add-length-2 c = omega (arith, c .before .before .before .before .before .before .pre .tables .laid, c .before .before .before .if1 .left)
+
+add-length-3 : tie.Need-add-length-3
+add-length-3 c = omega (arith, c .before .before .before .before .before .before .pre .tables .laid, c .before .before .before .if1 .left)
+
+returns-3 : tie.Need-returns-3
+unfolding newLength
+returns-3 c = answer-13 _ _ _ _ _ (c .before .before .before .before .before .before .before .pre) _ (c .before .before .before .before .if1 .left) _ (c .before .before .first-use .ensures) (c .before .if2 .left) (c .if3 .taken)
+
+mul-start : tie.Need-mul-start
+mul-start c = omega (arith, c .before .before .before .before .before .before .before .pre .tables .laid, c .before .before .before .before .if1 .left)
+
+mul-start-2 : tie.Need-mul-start-2
+mul-start-2 c = omega (arith, c .before .before .before .before .before .before .before .pre .tables .laid, c .before .before .before .before .if1 .left)
+
+add-start : tie.Need-add-start
+add-start c = omega (arith, c .before .before .before .before .before .before .before .pre .tables .laid, c .before .before .before .before .if1 .left)
+
+mul-end : tie.Need-mul-end
+mul-end c = omega (arith, c .before .before .before .before .before .before .before .pre .tables .laid, c .before .before .before .before .if1 .left)
+
+mul-end-2 : tie.Need-mul-end-2
+mul-end-2 c = omega (arith, c .before .before .before .before .before .before .before .pre .tables .laid, c .before .before .before .before .if1 .left)
+
+add-end : tie.Need-add-end
+add-end c = omega (arith, c .before .before .before .before .before .before .before .pre .tables .laid, c .before .before .before .before .if1 .left)
+
+sub-end : tie.Need-sub-end
+sub-end c = omega (arith, c .before .before .before .before .before .before .before .pre .tables .laid, c .before .before .before .before .if1 .left)
+
+mul-end-3 : tie.Need-mul-end-3
+mul-end-3 c = omega (arith, c .before .before .before .before .before .before .before .pre .tables .laid, c .before .before .before .before .if1 .left)
+
+add-end-2 : tie.Need-add-end-2
+add-end-2 c = omega (arith, c .before .before .before .before .before .before .before .pre .tables .laid, c .before .before .before .before .if1 .left)
+
+write-sheet-requires : tie.Need-write-sheet-requires
+write-sheet-requires c κs = (omega (arith, c .before .before .before .before .before .if1 .left), omega (arith, c .before .before .before .before .before .before .before .before .pre .tables .laid), omega (arith, c .before .before .before .before .before .before .before .before .pre .tables .laid, c .before .before .before .before .before .if1 .left), omega (arith, c .before .if3 .left))
+
+same-length : tie.Need-same-length
+same-length c = search needs
+
+returns-4 : tie.Need-returns-4
+unfolding newLength
+returns-4 c = answer-written _ _ _ _ _ (c .before .before .before .before .before .before .before .before .before .before .before .pre) _ (c .before .before .before .before .before .before .before .before .if1 .left) _ (c .before .before .before .before .before .before .first-use .ensures) (c .before .before .before .before .before .if2 .left) (c .before .before .before .before .if3 .left) _ (c .before .before .write-sheet .ensures)
+
+pub withdraw-line-spec : {M : Type 1} → statement M
+withdraw-line-spec =
+    tie.close
+    (tie.spec
+    returns
+    mul-after-contexts
+    mul-after-contexts-2
+    add-after-contexts
+    sub-first-use
+    part-first-use-start
+    part-first-use-end
+    first-use-requires
+    returns-2
+    mul-length
+    mul-length-2
+    add-length
+    sub-length
+    mul-length-3
+    add-length-2
+    add-length-3
+    returns-3
+    mul-start
+    mul-start-2
+    add-start
+    mul-end
+    mul-end-2
+    add-end
+    sub-end
+    mul-end-3
+    add-end-2
+    write-sheet-requires
+    same-length
+    returns-4)
