@@ -3,7 +3,7 @@
 use mathlib.Core.Path.{_≡_, refl, sym, _∙_, ap, subst}
 use mathlib.Core.Bool.{Bool, true, false, _&&_, cond, false≢true}
 use mathlib.Core.List.{List, [], _∷_}
-use Prim.Native.Nat.{ℕ, suc, _+_, _-_, _*_, _≤_, _<_}
+use Prim.Native.Nat.{ℕ, suc, _+_, _-_, _*_, _/_, _≤_, _<_}
 use native.Mathlib.Numerals.{add-one}
 use native.Mathlib.Omega.{arith}
 use lib.Dec.{ltb, leb}
@@ -16,7 +16,7 @@ use Rattle.answers.specs.Numbers.{isDigit, allDigits, spelled, readFrom,
 -- after i digits the number read so far, with the rest of the text, answers for the whole
 pub record ReadSoFar (text : List ℕ) (number i : ℕ) : Type 0 where
   pub within : i ≤ length text
-  pub small : number < 4294967296
+  pub small : number < 18446744073709551616
   pub answer : readNumber text ≡ readFrom number (drop i text)
 
 both : (a b : Bool) → a && b ≡ true → (a ≡ true) × (b ≡ true)
@@ -47,10 +47,10 @@ and-false : (a : Bool) → a && false ≡ false
 and-false true = refl
 and-false false = refl
 
-too-large : (before : ℕ) (text : List ℕ) → 4294967295 < before → readFrom before text ≡ Unreadable
+too-large : (before : ℕ) (text : List ℕ) → 18446744073709551615 < before → readFrom before text ≡ Unreadable
 unfolding readFrom
 too-large before text h =
-    rw (le-ltb (spelled before text) 4294967296 (omega (arith, spelled-grows before text)), and-false)
+    rw (le-ltb (spelled before text) 18446744073709551616 (omega (arith, spelled-grows before text)), and-false)
 
 pub start : (text : List ℕ) → (length text ≡ 0 → ⊥) → ReadSoFar text 0 0
 unfolding readNumber
@@ -65,7 +65,7 @@ empty (byte ∷ text) e = absurd (omega arith)
 module _ (text : List ℕ) (number i : ℕ) (so-far : ReadSoFar text number i) where
   pub done : length text ≤ i → Number number ≡ readNumber text
   unfolding readFrom allDigits spelled
-  done h = sym (so-far .answer ∙ ap (readFrom number) (drop-of-length-le text h) ∙ simp (lt-ltb number 4294967296 (so-far .small)))
+  done h = sym (so-far .answer ∙ ap (readFrom number) (drop-of-length-le text h) ∙ simp (lt-ltb number 18446744073709551616 (so-far .small)))
 
   module _ (inside : i < length text) (byte : ℕ) (here : byte ≡ getD text i 0) where
     at-byte : readNumber text ≡ readFrom number (byte ∷ drop (suc i) text)
@@ -74,16 +74,16 @@ module _ (text : List ℕ) (number i : ℕ) (so-far : ReadSoFar text number i) w
     pub not-read : isDigit byte ≡ false → Unreadable ≡ readNumber text
     not-read e = sym (at-byte ∙ no-digit number byte (drop (suc i) text) e)
 
-    module _ (is : isDigit byte ≡ true) (next : ℕ) (grown : next ≡ 10 * number + (byte - 48)) where
-      with-digit : readNumber text ≡ readFrom next (drop (suc i) text)
-      with-digit = at-byte ∙ digit number byte (drop (suc i) text) is ∙ ap (λ n. readFrom n (drop (suc i) text)) (sym grown)
+    module _ (is : isDigit byte ≡ true) (digit-is : ℕ) (here-digit : digit-is ≡ byte - 48) where
+      with-digit : readNumber text ≡ readFrom (10 * number + digit-is) (drop (suc i) text)
+      with-digit = at-byte ∙ digit number byte (drop (suc i) text) is ∙ ap (λ d. readFrom (10 * number + d) (drop (suc i) text)) (sym here-digit)
 
-      pub overflows : 4294967295 < next → Unreadable ≡ readNumber text
-      overflows h = sym (with-digit ∙ too-large next (drop (suc i) text) h)
+      pub overflows : (18446744073709551615 - digit-is) / 10 < number → Unreadable ≡ readNumber text
+      overflows h = sym (with-digit ∙ too-large (10 * number + digit-is) (drop (suc i) text) (omega (arith, digit-range byte is)))
 
-      pub goes-on : next ≤ 4294967295 → ReadSoFar text next (i + 1)
+      pub goes-on : number ≤ (18446744073709551615 - digit-is) / 10 → ReadSoFar text (10 * number + digit-is) (i + 1)
       goes-on h = record {
         within = omega arith;
-        small = omega arith;
-        answer = with-digit ∙ ap (λ n. readFrom next (drop n text)) (sym (add-one i));
+        small = omega (arith, digit-range byte is);
+        answer = with-digit ∙ ap (λ n. readFrom (10 * number + digit-is) (drop n text)) (sym (add-one i));
       }

@@ -11,6 +11,8 @@ use Rattle.sheets.specs.declared.admission.Admission.{Admission}
 use Rattle.sheets.specs.declared.admission.Admission.the-variants.{Accepted, Refused}
 use Rattle.sheets.specs.declared.finding.Found.{Found}
 use Rattle.sheets.specs.declared.finding.Found.the-variants.{Line, Refused as notFound}
+use Rattle.sheets.specs.declared.withdrawal.Withdrawal.{Withdrawal}
+use Rattle.sheets.specs.declared.withdrawal.Withdrawal.the-variants.{Written, Refused as notWritten}
 
 -- how many digits a number has, if that is at most one more than the first argument
 unfoldable pub places : ℕ → ℕ → ℕ
@@ -44,9 +46,17 @@ unfoldable pub admissionText : Admission → List ℕ
 admissionText (Accepted terms contexts lines) = ok ++ (field terms ++ (field contexts ++ (field lines ++ end)))
 admissionText (Refused number place) = refusedText number place
 
+-- one number
+unfoldable pub okText : ℕ → List ℕ
+okText value = ok ++ (field value ++ end)
+
 unfoldable pub foundText : Found → List ℕ
-foundText (Line line) = ok ++ (field line ++ end)
+foundText (Line line) = okText line
 foundText (notFound number place) = refusedText number place
+
+unfoldable pub withdrawalText : Withdrawal → List ℕ
+withdrawalText (Written length) = okText length
+withdrawalText (notWritten number place) = refusedText number place
 
 -- bytes stand behind the first at bytes of a buffer, whose length is kept, and end at the given place
 pub record Put (before : List ℕ) (at : ℕ) (bytes after : List ℕ) (stop : ℕ) : Type 0 where

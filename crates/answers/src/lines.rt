@@ -1,11 +1,12 @@
 // Answers as lines of text.
 use sheets::admission::Admission;
 use sheets::finding::Found;
+use sheets::withdrawal::Withdrawal;
 ghost use mathlib.Core.Path.{_≡_};
 ghost use Prim.Native.Nat.{_+_, _≤_};
 ghost use lib.ListN.{length, take};
 ghost use Rattle.io.specs.Counts.{Counts};
-ghost use Rattle.answers.specs.Text.{field, admissionText, foundText, refusedText, Put};
+ghost use Rattle.answers.specs.Text.{field, okText, refusedText, admissionText, foundText, withdrawalText, Put};
 
 // Puts bytes behind the first `at` bytes of `out`, and answers where they end.
 fn put(out: &mut [u8], at: usize, bytes: &[u8]) -> usize
@@ -42,6 +43,16 @@ fn put_refusal(number: usize, place: usize, out: &mut [u8; 80]) -> usize
     put(out, second, b"\n")
 }
 
+// Puts the word, one number and a line end, and answers how many bytes that is.
+fn put_value(value: usize, out: &mut [u8; 80]) -> usize
+    ensures { λ r. ⌜ Counts r (now (out .exit)) ⌝ }
+    ensures { λ r. ⌜ take r (now (out .exit)) ≡ okText value ⌝ }
+{
+    let word = put(out, 0, b"ok");
+    let first = put_number(out, word, value);
+    put(out, first, b"\n")
+}
+
 // Puts the line of an admission's answer, and answers how many bytes it has.
 pub fn put_admission(answer: Admission, out: &mut [u8; 80]) -> usize
     ensures { λ r. ⌜ Counts r (now (out .exit)) ⌝ }
@@ -70,10 +81,17 @@ pub fn put_found(answer: Found, out: &mut [u8; 80]) -> usize
 {
     match answer {
         Found::Refused { number, place } => put_refusal(number, place, out),
-        Found::Line(line) => {
-            let word = put(out, 0, b"ok");
-            let first = put_number(out, word, line);
-            put(out, first, b"\n")
-        }
+        Found::Line(line) => put_value(line, out),
+    }
+}
+
+// Puts the line of a withdrawal's answer, and answers how many bytes it has.
+pub fn put_withdrawal(answer: Withdrawal, out: &mut [u8; 80]) -> usize
+    ensures { λ r. ⌜ Counts r (now (out .exit)) ⌝ }
+    ensures { λ r. ⌜ take r (now (out .exit)) ≡ withdrawalText answer ⌝ }
+{
+    match answer {
+        Withdrawal::Refused { number, place } => put_refusal(number, place, out),
+        Withdrawal::Written { length } => put_value(length, out),
     }
 }

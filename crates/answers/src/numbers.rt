@@ -1,10 +1,16 @@
 // Decimal numbers in text.
 use sheets::finding::Wanted;
 ghost use mathlib.Core.Path.{_≡_};
-ghost use Rattle.answers.specs.Numbers.{isDigit, readNumber, requestOf};
+ghost use Rattle.answers.specs.Numbers.{isDigit, readNumber, fieldOf, requestOf};
 
-// What a text spells: a number below 2^32, or none.
+// What a text spells: a number below 2^64, or none.
 pub enum Reading {
+    Number(usize),
+    Unreadable,
+}
+
+// One number of a judgment that is looked for: below 2^32, or none.
+pub enum Field {
     Number(u32),
     Unreadable,
 }
@@ -15,10 +21,10 @@ pub enum Request {
     Unreadable,
 }
 
-fn wide(byte: u8) -> u64
+fn wide(byte: u8) -> usize
     ensures { λ r. ⌜ r ≡ byte ⌝ }
 {
-    byte as u64
+    byte as usize
 }
 
 // Is this byte a decimal digit?
@@ -35,39 +41,53 @@ pub fn read_number(text: &[u8]) -> Reading
     if text.len() == 0 {
         return Reading::Unreadable;
     }
-    let mut number: u64 = 0;
+    let mut number: usize = 0;
     let mut i = 0;
     while i < text.len() {
         let byte = text[i];
         if !is_digit(byte) {
             return Reading::Unreadable;
         }
-        number = 10 * number + (wide(byte) - 48);
-        if 4294967295 < number {
+        let digit = wide(byte) - 48;
+        if (18446744073709551615 - digit) / 10 < number {
             return Reading::Unreadable;
         }
+        number = 10 * number + digit;
         i += 1;
     }
-    Reading::Number(number as u32)
+    Reading::Number(number)
+}
+
+// A number as a judgment's fields hold it.
+pub fn field_of(reading: Reading) -> Field
+    ensures { λ r. ⌜ r ≡ fieldOf reading ⌝ }
+{
+    let Reading::Number(number) = reading else {
+        return Field::Unreadable;
+    };
+    if 4294967295 < number {
+        return Field::Unreadable;
+    }
+    Field::Number(number as u32)
 }
 
 // The judgment with these five numbers.
-pub fn request_of(form: Reading, context: Reading, s1: Reading, s2: Reading, s3: Reading) -> Request
+pub fn request_of(form: Field, context: Field, s1: Field, s2: Field, s3: Field) -> Request
     ensures { λ r. ⌜ r ≡ requestOf form context s1 s2 s3 ⌝ }
 {
-    let Reading::Number(form) = form else {
+    let Field::Number(form) = form else {
         return Request::Unreadable;
     };
-    let Reading::Number(context) = context else {
+    let Field::Number(context) = context else {
         return Request::Unreadable;
     };
-    let Reading::Number(s1) = s1 else {
+    let Field::Number(s1) = s1 else {
         return Request::Unreadable;
     };
-    let Reading::Number(s2) = s2 else {
+    let Field::Number(s2) = s2 else {
         return Request::Unreadable;
     };
-    let Reading::Number(s3) = s3 else {
+    let Field::Number(s3) = s3 else {
         return Request::Unreadable;
     };
     Request::Judgment(Wanted {

@@ -1,7 +1,8 @@
 // Finds the line of the sheet on standard input that has the five numbers of the arguments, and prints `ok` with the line
 // or `refused` with number and place.
-use answers::numbers::Reading;
+use answers::numbers::Field;
 use answers::numbers::Request;
+use answers::numbers::field_of;
 use answers::numbers::read_number;
 use answers::numbers::request_of;
 use answers::runs::run_search;
@@ -9,10 +10,10 @@ use libc::STDERR_FILENO;
 use libc::STDIN_FILENO;
 
 // The number that argument `i` spells. One that is missing or too long counts as empty.
-fn argument(i: usize) -> Reading {
+fn argument(i: usize) -> Field {
     let mut text = [0u8; 32];
     let length = os::arg(i, &mut text);
-    read_number(&text[..length])
+    field_of(read_number(&text[..length]))
 }
 
 // What the arguments ask for. The program's own name is one of them.

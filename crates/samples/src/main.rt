@@ -1,12 +1,18 @@
 // Runs the sample sheets. Each line of a list names a sheet and the numbers that go with it; the program writes the line and
-// the answer.
+// the answer. A sheet that is left after a withdrawal is admitted on a line of its own.
 use answers::numbers::Reading;
 use answers::numbers::Request;
+use answers::numbers::field_of;
 use answers::numbers::read_number;
 use answers::numbers::request_of;
+use answers::runs::admit_sheet;
+use answers::runs::print_admission;
+use answers::runs::print_withdrawal;
 use answers::runs::run_admission;
 use answers::runs::run_search;
+use answers::runs::withdraw_input;
 use libc::STDOUT_FILENO;
+use sheets::withdrawal::Withdrawal;
 ghost use mathlib.Core.Path.{_≡_};
 ghost use Prim.Native.Nat.{_+_, _≤_, min};
 ghost use lib.ListN.{length};
@@ -16,6 +22,7 @@ ghost use Rattle.io.specs.Counts.{Counts};
 enum Task {
     Admit,
     Find,
+    Withdraw,
 }
 
 // The first place of `byte` from `from` on, or the end of the text.
@@ -56,16 +63,30 @@ fn number_in(line: &[u8], n: usize) -> Reading {
 // Searches an opened sheet for the five numbers of a line.
 fn find_numbers(fd: i32, line: &[u8]) {
     match request_of(
-        number_in(line, 1),
-        number_in(line, 2),
-        number_in(line, 3),
-        number_in(line, 4),
-        number_in(line, 5),
+        field_of(number_in(line, 1)),
+        field_of(number_in(line, 2)),
+        field_of(number_in(line, 3)),
+        field_of(number_in(line, 4)),
+        field_of(number_in(line, 5)),
     ) {
         Request::Judgment(wanted) => run_search(fd, wanted),
         Request::Unreadable => {
             io::write_all(STDOUT_FILENO, b"unreadable\n");
         }
+    }
+}
+
+// Withdraws a line of an opened sheet, and admits the sheet that is left.
+fn withdraw_number(fd: i32, line: &[u8]) {
+    let Reading::Number(number) = number_in(line, 1) else {
+        io::write_all(STDOUT_FILENO, b"unreadable\n");
+        return;
+    };
+    let mut out = [0u8; 52241];
+    let answer = withdraw_input(fd, number, &mut out);
+    print_withdrawal(answer);
+    if let Withdrawal::Written { length } = answer {
+        print_admission(admit_sheet(&out[..length]));
     }
 }
 
@@ -82,6 +103,7 @@ fn run_line(line: &[u8], task: Task) {
     match task {
         Task::Admit => run_admission(fd),
         Task::Find => find_numbers(fd, line),
+        Task::Withdraw => withdraw_number(fd, line),
     }
     libc::close(fd);
 }
@@ -113,4 +135,5 @@ fn run_list(path: &[u8], task: Task) {
 fn main() {
     run_list(b"admit.list", Task::Admit);
     run_list(b"find.list", Task::Find);
+    run_list(b"withdraw.list", Task::Withdraw);
 }

@@ -1,14 +1,12 @@
 use mathlib.Core.Path.{sym, _∙_, ap}
 use Rattle.answers.specs.Text.{foundText}
-use Rattle.answers.proofs.TextLaws.{joined, whole-line}
 use borrow.Author.Needs.{needs}
 use Rattle.answers.proofs.lines.put_found.Statement.{statement}
 use Rattle.answers.proofs.lines.put_found.Tie as tie
 use Rattle.answers.proofs.lines.put_found.Reads as reads
 use Rattle.answers.proofs.lines.put_found.Lts as lts
-use Rattle.answers.proofs.lines.put.Reads as put-reads
-use Rattle.answers.proofs.lines.put_number.Reads as put-number-reads
 use Rattle.answers.proofs.lines.put_refusal.Reads as put-refusal-reads
+use Rattle.answers.proofs.lines.put_value.Reads as put-value-reads
 
 enum-known-answer : tie.Need-enum-known-answer
 enum-known-answer c = search needs
@@ -19,20 +17,8 @@ put-refusal-requires c κs = search needs
 enum-known-answer-2 : tie.Need-enum-known-answer-2
 enum-known-answer-2 c = search needs
 
-slice-aggregate-put : tie.Need-slice-aggregate-put
-slice-aggregate-put c = search needs
-
-put-requires : tie.Need-put-requires
-put-requires c κs = search needs
-
-put-number-requires : tie.Need-put-number-requires
-put-number-requires c κs = search needs
-
-slice-aggregate-put-2 : tie.Need-slice-aggregate-put-2
-slice-aggregate-put-2 c = search needs
-
-put-requires-2 : tie.Need-put-requires-2
-put-requires-2 c κs = search needs
+put-value-requires : tie.Need-put-value-requires
+put-value-requires c κs = search needs
 
 returns : tie.Need-returns
 unfolding foundText
@@ -40,8 +26,7 @@ returns c = (c .put-refusal .ensures .0, c .put-refusal .ensures .1 ∙ ap found
 
 returns-2 : tie.Need-returns-2
 unfolding foundText
-returns-2 c =
-    let line = whole-line (joined (c .before .before .before .before .before .put .ensures) (joined (c .before .before .before .put-number .ensures .0) (c .put2 .ensures))) in (line .0, line .1 ∙ ap foundText (sym (c .before .before .before .before .before .before .before .before .before .answer2 .given .1)))
+returns-2 c = (c .put-value .ensures .0, c .put-value .ensures .1 ∙ ap foundText (sym (c .before .before .before .answer2 .given .1)))
 
 pub put-found-spec : {M : Type 1} → statement M
 put-found-spec =
@@ -50,10 +35,6 @@ put-found-spec =
     enum-known-answer
     put-refusal-requires
     enum-known-answer-2
-    slice-aggregate-put
-    put-requires
-    put-number-requires
-    slice-aggregate-put-2
-    put-requires-2
+    put-value-requires
     returns
     returns-2)

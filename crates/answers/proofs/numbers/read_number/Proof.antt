@@ -34,20 +34,23 @@ is-digit-requires c κs = search needs
 returns-2 : tie.Need-returns-2 Inv-loop μ-loop
 returns-2 c = not-read _ _ _ (c .before .before .before .before .loop .inv) (c .before .before .before .loop-test .taken) _ refl (sym (c .before .is-digit .ensures) ∙ not-true _ (c .if2 .taken))
 
-mul-number : tie.Need-mul-number Inv-loop μ-loop
-mul-number c = search needs
-
 wide-requires : tie.Need-wide-requires Inv-loop μ-loop
 wide-requires c κs = search needs
 
-sub-number : tie.Need-sub-number Inv-loop μ-loop
-sub-number c = omega (arith, digit-range _ (sym (c .before .before .is-digit .ensures) ∙ not-false _ (c .before .if2 .left)))
+sub-digit : tie.Need-sub-digit Inv-loop μ-loop
+sub-digit c = omega (arith, c .wide .ensures, digit-range _ (sym (c .before .before .is-digit .ensures) ∙ not-false _ (c .before .if2 .left)))
 
-add-number : tie.Need-add-number Inv-loop μ-loop
-add-number c = omega (arith, c .wide .ensures, digit-range _ (sym (c .before .before .is-digit .ensures) ∙ not-false _ (c .before .if2 .left)))
+sub-if3 : tie.Need-sub-if3 Inv-loop μ-loop
+sub-if3 c = search needs
 
 returns-3 : tie.Need-returns-3 Inv-loop μ-loop
-returns-3 c = overflows _ _ _ (c .before .before .before .before .before .before .loop .inv) (c .before .before .before .before .before .loop-test .taken) _ refl (sym (c .before .before .before .is-digit .ensures) ∙ not-false _ (c .before .before .if2 .left)) _ (ap (λ d. 10 * c .before .before .before .before .before .before .loop .number + (d - 48)) (c .before .wide .ensures)) (c .if3 .taken)
+returns-3 c = overflows _ _ _ (c .before .before .before .before .before .before .loop .inv) (c .before .before .before .before .before .loop-test .taken) _ refl (sym (c .before .before .before .is-digit .ensures) ∙ not-false _ (c .before .before .if2 .left)) _ (ap (λ d. d - 48) (c .before .wide .ensures)) (c .if3 .taken)
+
+mul-number : tie.Need-mul-number Inv-loop μ-loop
+mul-number c = omega (arith, c .if3 .left)
+
+add-number : tie.Need-add-number Inv-loop μ-loop
+add-number c = omega (arith, c .if3 .left)
 
 add-i : tie.Need-add-i Inv-loop μ-loop
 add-i c = search needs
@@ -56,10 +59,7 @@ loop-less : tie.Need-loop-less Inv-loop μ-loop
 loop-less c = search needs
 
 loop-again : tie.Need-loop-again Inv-loop μ-loop
-loop-again c = goes-on _ _ _ (c .before .before .before .before .before .before .loop .inv) (c .before .before .before .before .before .loop-test .taken) _ refl (sym (c .before .before .before .is-digit .ensures) ∙ not-false _ (c .before .before .if2 .left)) _ (ap (λ d. 10 * c .before .before .before .before .before .before .loop .number + (d - 48)) (c .before .wide .ensures)) (c .if3 .left)
-
-cast-t15 : tie.Need-cast-t15 Inv-loop μ-loop
-cast-t15 c = search needs
+loop-again c = goes-on _ _ _ (c .before .before .before .before .before .before .loop .inv) (c .before .before .before .before .before .loop-test .taken) _ refl (sym (c .before .before .before .is-digit .ensures) ∙ not-false _ (c .before .before .if2 .left)) _ (ap (λ d. d - 48) (c .before .wide .ensures)) (c .if3 .left)
 
 returns-4 : tie.Need-returns-4 Inv-loop μ-loop
 returns-4 c = done _ _ _ (c .before .loop .inv) (c .loop-test .left)
@@ -75,13 +75,13 @@ read-number-spec =
     shared-slice-read-byte
     is-digit-requires
     returns-2
-    mul-number
     wide-requires
-    sub-number
-    add-number
+    sub-digit
+    sub-if3
     returns-3
+    mul-number
+    add-number
     add-i
     loop-less
     loop-again
-    cast-t15
     returns-4)

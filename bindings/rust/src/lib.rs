@@ -1,0 +1,90 @@
+//! The proved checker, as safe functions. Nothing checks these declarations against the Rattle source: they follow include/mengyubad.h.
+
+mod c {
+    extern "C" {
+        pub fn mengyubad_admit(
+            sheet: *const u8,
+            sheet_length: usize,
+            work: *mut u32,
+            work_words: usize,
+            values: *mut [usize; 3],
+        ) -> usize;
+        pub fn mengyubad_find(
+            sheet: *const u8,
+            sheet_length: usize,
+            work: *mut u32,
+            work_words: usize,
+            wanted: *const [u32; 5],
+            values: *mut [usize; 3],
+        ) -> usize;
+        pub fn mengyubad_withdraw(
+            sheet: *const u8,
+            sheet_length: usize,
+            line: usize,
+            work: *mut u32,
+            work_words: usize,
+            out: *mut u8,
+            out_length: usize,
+            values: *mut [usize; 3],
+        ) -> usize;
+    }
+}
+
+/// What a call answers: number 0 with its values, or the number of a refusal with its place as the first value.
+#[derive(Clone, Copy, Debug, PartialEq, Eq)]
+pub struct Answer {
+    pub number: usize,
+    pub values: [usize; 3],
+}
+
+/// Admits a sheet: the counts T, C, L.
+pub fn admit(sheet: &[u8], work: &mut [u32]) -> Answer {
+    let mut values = [0; 3];
+    // SAFETY: the pointers and lengths are those of live slices that do not overlap, and the library keeps none of them.
+    let number = unsafe {
+        c::mengyubad_admit(
+            sheet.as_ptr(),
+            sheet.len(),
+            work.as_mut_ptr(),
+            work.len(),
+            &mut values,
+        )
+    };
+    Answer { number, values }
+}
+
+/// Finds the lowest line with form, context, s1, s2, s3.
+pub fn find(sheet: &[u8], work: &mut [u32], wanted: [u32; 5]) -> Answer {
+    let mut values = [0; 3];
+    // SAFETY: as in `admit`; `wanted` lives until the call returns.
+    let number = unsafe {
+        c::mengyubad_find(
+            sheet.as_ptr(),
+            sheet.len(),
+            work.as_mut_ptr(),
+            work.len(),
+            &wanted,
+            &mut values,
+        )
+    };
+    Answer { number, values }
+}
+
+/// Writes the sheet without a line to `out`: the new length.
+pub fn withdraw(sheet: &[u8], line: usize, work: &mut [u32], out: &mut [u8]) -> Answer {
+    let mut values = [0; 3];
+    // SAFETY: as in `admit`; `out` is a slice of its own.
+    let number = unsafe {
+        c::mengyubad_withdraw(
+            sheet.as_ptr(),
+            sheet.len(),
+            line,
+            work.as_mut_ptr(),
+            work.len(),
+            out.as_mut_ptr(),
+            out.len(),
+            &mut values,
+        )
+    };
+    Answer { number, values }
+}

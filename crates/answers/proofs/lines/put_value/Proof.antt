@@ -1,0 +1,39 @@
+use Rattle.answers.specs.Text.{okText}
+use Rattle.answers.proofs.TextLaws.{joined, whole-line}
+use borrow.Author.Needs.{needs}
+use Rattle.answers.proofs.lines.put_value.Statement.{statement}
+use Rattle.answers.proofs.lines.put_value.Tie as tie
+use Rattle.answers.proofs.lines.put_value.Reads as reads
+use Rattle.answers.proofs.lines.put_value.Lts as lts
+use Rattle.answers.proofs.lines.put.Reads as put-reads
+use Rattle.answers.proofs.lines.put_number.Reads as put-number-reads
+
+slice-aggregate-put : tie.Need-slice-aggregate-put
+slice-aggregate-put c = search needs
+
+put-requires : tie.Need-put-requires
+put-requires c κs = search needs
+
+put-number-requires : tie.Need-put-number-requires
+put-number-requires c κs = search needs
+
+slice-aggregate-put-2 : tie.Need-slice-aggregate-put-2
+slice-aggregate-put-2 c = search needs
+
+put-requires-2 : tie.Need-put-requires-2
+put-requires-2 c κs = search needs
+
+returns : tie.Need-returns
+unfolding okText
+returns c = whole-line (joined (c .before .before .before .before .before .put .ensures) (joined (c .before .before .before .put-number .ensures .0) (c .put2 .ensures)))
+
+pub put-value-spec : {M : Type 1} → statement M
+put-value-spec =
+    tie.close
+    (tie.spec
+    slice-aggregate-put
+    put-requires
+    put-number-requires
+    slice-aggregate-put-2
+    put-requires-2
+    returns)

@@ -1,0 +1,41 @@
+use mathlib.Core.Path.{_∙_, ap, subst}
+use Rattle.sheets.specs.Withdrawal.{Withdrawn}
+use Rattle.mengyubad.specs.Replies.{withdrawalReply}
+use Rattle.mengyubad.proofs.ReplyLaws.{given-equal}
+use borrow.Author.Needs.{needs}
+use Rattle.mengyubad.proofs.mengyubad_withdraw.Statement.{statement}
+use Rattle.mengyubad.proofs.mengyubad_withdraw.Tie as tie
+use Rattle.mengyubad.proofs.mengyubad_withdraw.Reads as reads
+use Rattle.mengyubad.proofs.mengyubad_withdraw.Lts as lts
+use Rattle.mengyubad.proofs.give.Reads as give-reads
+use Rattle.mengyubad.proofs.withdrawal_reply.Reads as withdrawal-reply-reads
+use Rattle.sheets.proofs.withdrawal.withdraw.Reads as withdraw-reads
+
+withdraw-requires : tie.Need-withdraw-requires
+withdraw-requires c κs = search needs
+
+withdrawal-reply-requires : tie.Need-withdrawal-reply-requires
+withdrawal-reply-requires c κs = search needs
+
+give-requires : tie.Need-give-requires
+give-requires c κs = search needs
+
+same-length : tie.Need-same-length
+same-length c = search needs
+
+same-length-2 : tie.Need-same-length-2
+same-length-2 c = search needs
+
+returns : tie.Need-returns
+returns c = (given-equal (c .before .before .withdrawal-reply .ensures ∙ ap withdrawalReply (c .before .before .before .before .before .before .before .withdraw .ensures .0)) (c .give .ensures), (c .before .before .before .before .before .before .before .withdraw .ensures .1 .0, (c .before .before .before .before .before .before .before .withdraw .ensures .1 .1 .0, subst (Withdrawn _ _ _) (c .before .before .before .before .before .before .before .withdraw .ensures .0) (c .before .before .before .before .before .before .before .withdraw .ensures .1 .1 .1))))
+
+pub mengyubad-withdraw-spec : {M : Type 1} → statement M
+mengyubad-withdraw-spec =
+    tie.close
+    (tie.spec
+    withdraw-requires
+    withdrawal-reply-requires
+    give-requires
+    same-length
+    same-length-2
+    returns)

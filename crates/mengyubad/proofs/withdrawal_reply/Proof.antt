@@ -1,0 +1,39 @@
+use mathlib.Core.Path.{sym, _∙_, ap}
+use Rattle.mengyubad.specs.Replies.{withdrawalReply}
+use borrow.Author.Needs.{needs}
+use Rattle.mengyubad.proofs.withdrawal_reply.Statement.{statement}
+use Rattle.mengyubad.proofs.withdrawal_reply.Tie as tie
+use Rattle.mengyubad.proofs.withdrawal_reply.Reads as reads
+use Rattle.mengyubad.proofs.withdrawal_reply.Lts as lts
+use Rattle.mengyubad.proofs.single.Reads as single-reads
+
+enum-known-answer : tie.Need-enum-known-answer
+enum-known-answer c = search needs
+
+single-requires : tie.Need-single-requires
+single-requires c κs = search needs
+
+enum-known-answer-2 : tie.Need-enum-known-answer-2
+enum-known-answer-2 c = search needs
+
+single-requires-2 : tie.Need-single-requires-2
+single-requires-2 c κs = search needs
+
+returns : tie.Need-returns
+unfolding withdrawalReply
+returns c = c .single .ensures ∙ ap withdrawalReply (sym (c .before .before .answer .given .1))
+
+returns-2 : tie.Need-returns-2
+unfolding withdrawalReply
+returns-2 c = c .single2 .ensures ∙ ap withdrawalReply (sym (c .before .before .answer2 .given .1))
+
+pub withdrawal-reply-spec : {M : Type 1} → statement M
+withdrawal-reply-spec =
+    tie.close
+    (tie.spec
+    enum-known-answer
+    single-requires
+    enum-known-answer-2
+    single-requires-2
+    returns
+    returns-2)

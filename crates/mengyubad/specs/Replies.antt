@@ -1,0 +1,40 @@
+-- Answers as numbers, for programs in other languages: document 01's number and values for each case. Number 0 is success.
+use mathlib.Core.Path.{_≡_}
+use mathlib.Core.List.{List, [], _∷_}
+use Prim.Native.Nat.{ℕ}
+use lib.ListN.{getD}
+use Rattle.sheets.specs.declared.admission.Admission.{Admission}
+use Rattle.sheets.specs.declared.admission.Admission.the-variants.{Accepted, Refused}
+use Rattle.sheets.specs.declared.finding.Found.{Found}
+use Rattle.sheets.specs.declared.finding.Found.the-variants.{Line, Refused as notFound}
+use Rattle.sheets.specs.declared.finding.Wanted.{Wanted}
+use Rattle.sheets.specs.declared.withdrawal.Withdrawal.{Withdrawal}
+use Rattle.sheets.specs.declared.withdrawal.Withdrawal.the-variants.{Written, Refused as notWritten}
+use Rattle.mengyubad.specs.declared.Reply.{Reply}
+
+-- a number with one value; the other two are 0
+unfoldable pub oneValue : ℕ → ℕ → Reply
+oneValue number value = record { number = number; first = value; second = 0; third = 0 }
+
+-- "T, C, L | admitted"; a refusal has its number and its place
+unfoldable pub admissionReply : Admission → Reply
+admissionReply (Accepted terms contexts lines) = record { number = 0; first = terms; second = contexts; third = lines }
+admissionReply (Refused number place) = oneValue number place
+
+-- "line number | judgment found"
+unfoldable pub foundReply : Found → Reply
+foundReply (Line line) = oneValue 0 line
+foundReply (notFound number place) = oneValue number place
+
+-- "new length | line withdrawn"
+unfoldable pub withdrawalReply : Withdrawal → Reply
+withdrawalReply (Written length) = oneValue 0 length
+withdrawalReply (notWritten number place) = oneValue number place
+
+-- five numbers, in the order in which document 01 names them: form, context, s1, s2, s3
+unfoldable pub wantedOf : List ℕ → Wanted
+wantedOf l = record { form = getD l 0 0; context = getD l 1 0; s1 = getD l 2 0; s2 = getD l 3 0; s3 = getD l 4 0 }
+
+-- a caller is given this reply: its number as the result, its values in three words
+abbrev pub Given : Reply → ℕ → List ℕ → Type 0
+Given reply number values = (number ≡ reply .number) × (values ≡ reply .first ∷ reply .second ∷ reply .third ∷ [])

@@ -1,0 +1,60 @@
+// Withdraws line LINE of the sheet on standard input, and prints `ok` with the new length or `refused` with number and place. The
+// new sheet goes to NEWFILE, which is made only then and must not be there before.
+use answers::numbers::Reading;
+use answers::numbers::read_number;
+use answers::runs::print_withdrawal;
+use answers::runs::withdraw_input;
+use libc::STDERR_FILENO;
+use libc::STDIN_FILENO;
+use sheets::withdrawal::Withdrawal;
+
+// The number that the first argument spells. One that is missing or too long counts as empty.
+fn line_argument() -> Reading {
+    let mut text = [0u8; 32];
+    let length = os::arg(1, &mut text);
+    read_number(&text[..length])
+}
+
+// Makes a file that holds these bytes, and answers whether it could. A file that was cut short is removed.
+fn make_file(path: &[u8], bytes: &[u8]) -> bool {
+    let fd = os::create(path);
+    if fd < 0 {
+        os::fail(path);
+        return false;
+    }
+    let whole = io::write_all(fd, bytes);
+    let closed = libc::close(fd);
+    if whole & (closed == 0) {
+        return true;
+    }
+    os::fail(path);
+    os::unlink(path);
+    false
+}
+
+// Withdraws a line, and makes the new file before it says so.
+fn withdraw_to(line: usize, path: &[u8]) {
+    let mut out = [0u8; 52241];
+    let answer = withdraw_input(STDIN_FILENO, line, &mut out);
+    if let Withdrawal::Written { length } = answer {
+        if !make_file(path, &out[..length]) {
+            return;
+        }
+    }
+    print_withdrawal(answer);
+}
+
+fn main() {
+    let mut path = [0u8; 4096];
+    let length = os::arg(2, &mut path);
+    if (os::arg_count() == 3) & (0 < length) {
+        if let Reading::Number(line) = line_argument() {
+            withdraw_to(line, &path[..length]);
+            return;
+        }
+    }
+    io::write_all(
+        STDERR_FILENO,
+        b"usage: withdraw LINE NEWFILE < SHEET, a number below 18446744073709551616 and a new file's name\n",
+    );
+}

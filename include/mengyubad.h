@@ -1,0 +1,76 @@
+/*
+ * Mengyubad: admission of derivation sheets, finding and withdrawal of a line.
+ *
+ * Link libmengyubad.a (`rt staticlib mengyubad` writes it to target/staticlib; x86-64). Every function is proved to meet the
+ * contract in crates/mengyubad/src/lib.rt; the comments here say the same in words. docs/FORMAT.md describes sheets.
+ *
+ * What C owes: no pointer is null, even where its length is 0; each points to as many elements as its length says; no two buffers
+ * overlap. Nothing else is asked: any bytes, lengths and numbers may be handed over. The functions keep no pointer, allocate
+ * nothing and may be called from several threads on buffers of their own.
+ *
+ * Every function returns 0, or the number of a refusal, and sets all three words of `values`:
+ *   0       mengyubad_admit: T, C, L; mengyubad_find: the line, 0, 0; mengyubad_withdraw: the new length, 0, 0
+ *   1 to 14 the place, 0, 0
+ *
+ * The work buffer takes the sizes of the terms, one word each; MENGYUBAD_MOST_TERMS words serve every sheet. What it held does not
+ * matter. Afterwards:
+ *   refusals 1 to 4           all of it is as it was
+ *   refusals 5 to 7 at term k its first k words are the sizes of terms 0 to k - 1
+ *   otherwise                 its first T words are the sizes of all terms
+ * Words beyond these are as they were.
+ */
+#ifndef MENGYUBAD_H
+#define MENGYUBAD_H
+
+#include <stddef.h>
+#include <stdint.h>
+
+#ifdef __cplusplus
+extern "C" {
+#endif
+
+/* Limits of the format: the terms of a sheet, and its bytes. */
+enum { MENGYUBAD_MOST_TERMS = 3072, MENGYUBAD_MOST_BYTES = 52240 };
+
+/* What the functions return. The comment names the place. */
+enum mengyubad_number {
+    MENGYUBAD_OK = 0,
+    MENGYUBAD_LENGTH = 1,           /* length under 16 or over 52,240: 0 */
+    MENGYUBAD_MARK = 2,             /* mark or edition wrong: 0 */
+    MENGYUBAD_COUNTS = 3,           /* a count over its limit, or distances or length disagree with the counts: 0 */
+    MENGYUBAD_WORK_SHORT = 4,       /* work buffer under T words: 0 */
+    MENGYUBAD_TERM = 5,             /* term row breaks tag, operand or range: the term */
+    MENGYUBAD_TERM_REPEATED = 6,    /* term row equals an earlier one: the term */
+    MENGYUBAD_TERM_SIZE = 7,        /* size over 65,535: the term */
+    MENGYUBAD_CONTEXT = 8,          /* context row: parent, type number or repetition: the context, from 1 on */
+    MENGYUBAD_LINE = 9,             /* form, rule, range, unused field, or a premise not earlier: the line */
+    MENGYUBAD_NO_INSTANCE = 10,     /* line is no instance of its rule: the line */
+    MENGYUBAD_NO_LINE = 11,         /* withdrawal, no such line: the number given */
+    MENGYUBAD_LINE_USED = 12,       /* withdrawal, a later line uses it as a premise: the lowest such line */
+    MENGYUBAD_OUT_SHORT = 13,       /* withdrawal, output under the new length: 0 */
+    MENGYUBAD_NOT_FOUND = 14        /* finding, no line has those five numbers: 0 */
+};
+
+/* Admits a sheet. Returns 0 or 1 to 10. */
+size_t mengyubad_admit(const uint8_t *sheet, size_t sheet_length, uint32_t *work, size_t work_words, size_t values[3]);
+
+/*
+ * Admits a sheet, then finds the lowest line whose form, context, s1, s2 and s3 are the five numbers wanted, as they stand in the
+ * sheet. Returns 0, 1 to 10, or 14.
+ */
+size_t mengyubad_find(const uint8_t *sheet, size_t sheet_length, uint32_t *work, size_t work_words, const uint32_t wanted[5],
+                      size_t values[3]);
+
+/*
+ * Admits a sheet, then writes it to `out` without line `line`: premises above the line are lowered by 1, the count of lines and the
+ * three distances are lowered. Returns 0, 1 to 10, or 11 to 13. The new sheet is the output up to the new length, which is 20 below
+ * the old length; bytes of `out` beyond it are as they were, and on any refusal so is all of `out`.
+ */
+size_t mengyubad_withdraw(const uint8_t *sheet, size_t sheet_length, size_t line, uint32_t *work, size_t work_words, uint8_t *out,
+                          size_t out_length, size_t values[3]);
+
+#ifdef __cplusplus
+}
+#endif
+
+#endif
