@@ -1,12 +1,11 @@
--- Demand 3, parts (a) and (b), of admission as it runs: demand 1 put in.
+-- Demand 3, parts (a) and (b), of admission as it runs.
 -- Assumes nothing.
-use Rattle.sheets.proofs.AdmissionLaws.{accepted-is}
 use Rattle.derivations.specs.Demand3.{Sound, Complete}
-use Rattle.derivations.proofs.SheetDerives.{sound-by}
-use Rattle.derivations.proofs.Complete.{complete-by}
+use Rattle.derivations.proofs.SheetDerives.{sound-by-lines}
+use Rattle.derivations.proofs.Complete.{complete-by-sheets}
 
 pub sound : Sound
-sound = sound-by accepted-is
+sound = sound-by-lines
 
 pub complete : Complete
-complete = complete-by accepted-is
+complete = complete-by-sheets

@@ -1,7 +1,6 @@
 -- Demand 3 (a): what an accepted sheet states is a derivation, and so is each beginning of it.
--- Assumes nothing but demand 1, as a parameter.
+-- Assumes nothing.
 use mathlib.Core.Path.{_≡_, sym, _∙_, ap, subst, subst₂}
-use mathlib.Core.Logic.{_↔_}
 use mathlib.Core.List.{List, []}
 use Prim.Native.Nat.{ℕ, suc, _≤_, _<_}
 use native.Mathlib.Omega.{arith}
@@ -12,18 +11,12 @@ use Rattle.rules.specs.Judgment.{Judgment, wf}
 use Rattle.rules.specs.Instance.{Instance}
 use Rattle.rules.specs.RuleTable.{premiseCount}
 use Rattle.sheets.specs.Lines.{premisesOf, citedBy, lineAt, statedAt, LineFollows}
-use Rattle.sheets.specs.Admission.{admitOf}
 use Rattle.sheets.specs.Good.{Good}
-use Rattle.sheets.specs.declared.admission.Admission.the-variants.{Accepted}
-use Rattle.sheets.proofs.AcceptedLaws.{stated-is}
+use Rattle.sheets.proofs.AcceptedLaws.{accepted-good, stated-is}
 use Rattle.derivations.specs.Derivation.{judgmentAt, Derivation}
-use Rattle.sheets.specs.Accepted.{IsAccepted, statedBy}
+use Rattle.sheets.specs.Accepted.{statedBy}
 use Rattle.derivations.specs.Demand3.{Sound}
 use Rattle.derivations.proofs.ListLaws.{listed-length, listed-at, map-below, all-below}
-
--- demand 1
-abbrev pub Demand1 : Type 0
-Demand1 = (b : List ℕ) (work T C L : ℕ) → (admitOf b work ≡ Accepted T C L) ↔ (Good b T C L × (T ≤ work))
 
 -- what a good sheet states
 module _ {b : List ℕ} {T C L : ℕ} (g : Good b T C L) where
@@ -70,25 +63,17 @@ beginning js n h d i k =
           (sym (getD-take n js i (wf []) b)) (s .follows);
     }
 
-module _ (demand1 : Demand1) where
-  -- a sheet is accepted exactly if it is good
-  pub good-accepted : {b : List ℕ} {T C L : ℕ} → Good b T C L → IsAccepted b
-  good-accepted {b} {T} {C} {L} g = record { T = T; C = C; L = L; answer = λ work h. demand1 b work T C L .1 (g, h) }
-
-  pub accepted-good : (b : List ℕ) (a : IsAccepted b) → Good b (a .T) (a .C) (a .L)
-  accepted-good b a = demand1 b (a .T) (a .T) (a .C) (a .L) .0 (a .answer (a .T) (omega arith)) .0
-
-  -- the derivation of a line is what the sheet states up to that line
-  pub sound-by : Sound
-  sound-by b a =
-      let g = accepted-good b a in (
-        stated-length g,
-        λ i h. (
-          take (suc i) (statedBy b),
-          record {
-            derivation = beginning (statedBy b) (suc i) h (stated-derivation g);
-            before = take i (statedBy b);
-            last = take-suc (statedBy b) i (wf []) h;
-          },
-        ),
-      )
+-- the derivation of a line is what the sheet states up to that line
+pub sound-by-lines : Sound
+sound-by-lines b a =
+    let g = accepted-good b a in (
+      stated-length g,
+      λ i h. (
+        take (suc i) (statedBy b),
+        record {
+          derivation = beginning (statedBy b) (suc i) h (stated-derivation g);
+          before = take i (statedBy b);
+          last = take-suc (statedBy b) i (wf []) h;
+        },
+      ),
+    )

@@ -9,6 +9,8 @@ pub mod TermLaws
 pub mod NodeLaws
 pub mod TableLaws
 pub mod WalkLaws
+pub mod HeldLaws
 pub mod ImageLaws
 pub mod SubstitutionLaws
 pub mod FreeIndexLaws
+pub mod IndexLaws

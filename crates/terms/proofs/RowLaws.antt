@@ -71,10 +71,6 @@ module _ (bytes : List ℕ) (n : ℕ) (r : Row) where
 
 -- `repeated`
 module _ (bytes : List ℕ) (r : Row) where
-  pub repeated-next : (n : ℕ) → repeatedBelow bytes r n ≡ false → holdsRow bytes n r ≡ false → repeatedBelow bytes r (n + 1) ≡ false
-  unfolding repeatedBelow
-  repeated-next n h k = rw (add-one, h, k, repeatedBelow)
-
   pub repeated-at : (i n : ℕ) → i < n → holdsRow bytes i r ≡ true → repeatedBelow bytes r n ≡ true
   unfolding repeatedBelow
   repeated-at i zero l h = absurd (omega arith)

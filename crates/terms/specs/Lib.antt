@@ -7,5 +7,7 @@ pub mod Words
 pub mod Rows
 pub mod Table
 pub mod Sizes
+pub mod RowIndex
 pub mod Nodes
+pub mod Held
 pub mod Images

@@ -1,5 +1,8 @@
 // Tests that one row spells the shift, or the substitution, of another. Both terms are walked in step, and the
-// walk ends at the first difference: at most 65,535 nodes are visited, at most as deep as there are rows.
+// walk ends at the first difference: at most 65,535 nodes are visited, at most as deep as there are rows. What held
+// is remembered for the rest of the walk, since rows share subterms.
+use crate::held::hold;
+use crate::held::is_held;
 use crate::nodes::Node;
 use crate::nodes::child;
 use crate::nodes::is_node;
@@ -14,6 +17,7 @@ ghost use Rattle.terms.specs.Decides.{Decides};
 ghost use Rattle.terms.specs.Rows.{term};
 ghost use Rattle.terms.specs.Substitution.{shift, putFor, substitute};
 ghost use Rattle.terms.specs.Table.{Given};
+ghost use Rattle.terms.specs.Held.{Held};
 ghost use Rattle.terms.specs.Images.{loweredOf, imageOf, imageRows, imageTerm, imageNumber, putRows, putting};
 ghost use Rattle.terms.specs.Term.{var, first, succ, ind};
 
@@ -53,6 +57,32 @@ pub fn is_shifted(rows: &[u8], k: usize, d: usize, t: usize, u: usize) -> bool
     requires { ⌜ Given (now rows) (t ∷ u ∷ []) × (k + 2 * t ≤ 65536) × (d ≤ 65536) ⌝ }
     ensures { λ r. ⌜ Decides r (term (now (rows .entry)) u ≡ shift k d (term (now (rows .entry)) t)) ⌝ }
 {
+    let mut held = [0usize; 64];
+    walk_shifted(rows, k, d, t, u, &mut held)
+}
+
+// The same, answered from the memory where it can be.
+fn walk_shifted(rows: &[u8], k: usize, d: usize, t: usize, u: usize, held: &mut [usize; 64]) -> bool
+    requires { ⌜ Given (now rows) (t ∷ u ∷ []) × (k + 2 * t ≤ 65536) × (d ≤ 65536) × Held (now rows) (λ n s. shift n d s) (now held) ⌝ }
+    ensures answer { λ r. ⌜ Decides r (term (now (rows .entry)) u ≡ shift k d (term (now (rows .entry)) t)) ⌝ }
+    ensures memory { λ r. ⌜ Held (now (rows .entry)) (λ n s. shift n d s) (now (held .exit)) ⌝ }
+{
+    if is_held(held, k, t, u) {
+        return true;
+    }
+    if shifted_here(rows, k, d, t, u, held) {
+        hold(held, k, t, u);
+        return true;
+    }
+    false
+}
+
+// The same, by the heads and the children.
+fn shifted_here(rows: &[u8], k: usize, d: usize, t: usize, u: usize, held: &mut [usize; 64]) -> bool
+    requires { ⌜ Given (now rows) (t ∷ u ∷ []) × (k + 2 * t ≤ 65536) × (d ≤ 65536) × Held (now rows) (λ n s. shift n d s) (now held) ⌝ }
+    ensures answer { λ r. ⌜ Decides r (term (now (rows .entry)) u ≡ shift k d (term (now (rows .entry)) t)) ⌝ }
+    ensures memory { λ r. ⌜ Held (now (rows .entry)) (λ n s. shift n d s) (now (held .exit)) ⌝ }
+{
     let tag = word(rows, t, 0);
     if tag == 1 {
         return is_raised_variable(rows, k, d, word(rows, t, 1), u);
@@ -61,12 +91,13 @@ pub fn is_shifted(rows: &[u8], k: usize, d: usize, t: usize, u: usize) -> bool
         let count = arity(tag);
         let mut j = 1;
         while j <= count {
-            if is_shifted(
+            if walk_shifted(
                 rows,
                 k + binders(tag, j),
                 d,
                 word(rows, t, j),
                 word(rows, u, j),
+                held,
             ) {
                 j += 1;
             } else {
@@ -207,6 +238,46 @@ pub fn is_substituted(rows: &[u8], k: usize, put: Put, t: usize, u: usize) -> bo
     requires { ⌜ Given (now rows) (t ∷ u ∷ putRows put) × (k + 2 * t ≤ 65536) ⌝ }
     ensures { λ r. ⌜ Decides r (term (now (rows .entry)) u ≡ substitute k (putting (now (rows .entry)) put) (term (now (rows .entry)) t)) ⌝ }
 {
+    let mut held = [0usize; 64];
+    walk_substituted(rows, k, put, t, u, &mut held)
+}
+
+// The same, answered from the memory where it can be.
+fn walk_substituted(
+    rows: &[u8],
+    k: usize,
+    put: Put,
+    t: usize,
+    u: usize,
+    held: &mut [usize; 64],
+) -> bool
+    requires { ⌜ Given (now rows) (t ∷ u ∷ putRows put) × (k + 2 * t ≤ 65536) × Held (now rows) (λ n s. substitute n (putting (now rows) put) s) (now held) ⌝ }
+    ensures answer { λ r. ⌜ Decides r (term (now (rows .entry)) u ≡ substitute k (putting (now (rows .entry)) put) (term (now (rows .entry)) t)) ⌝ }
+    ensures memory { λ r. ⌜ Held (now (rows .entry)) (λ n s. substitute n (putting (now (rows .entry)) put) s) (now (held .exit)) ⌝ }
+{
+    if is_held(held, k, t, u) {
+        return true;
+    }
+    if substituted_here(rows, k, put, t, u, held) {
+        hold(held, k, t, u);
+        return true;
+    }
+    false
+}
+
+// The same, by the heads and the children.
+fn substituted_here(
+    rows: &[u8],
+    k: usize,
+    put: Put,
+    t: usize,
+    u: usize,
+    held: &mut [usize; 64],
+) -> bool
+    requires { ⌜ Given (now rows) (t ∷ u ∷ putRows put) × (k + 2 * t ≤ 65536) × Held (now rows) (λ n s. substitute n (putting (now rows) put) s) (now held) ⌝ }
+    ensures answer { λ r. ⌜ Decides r (term (now (rows .entry)) u ≡ substitute k (putting (now (rows .entry)) put) (term (now (rows .entry)) t)) ⌝ }
+    ensures memory { λ r. ⌜ Held (now (rows .entry)) (λ n s. substitute n (putting (now (rows .entry)) put) s) (now (held .exit)) ⌝ }
+{
     let tag = word(rows, t, 0);
     if tag == 1 {
         return is_put(rows, k, put, word(rows, t, 1), u);
@@ -215,12 +286,13 @@ pub fn is_substituted(rows: &[u8], k: usize, put: Put, t: usize, u: usize) -> bo
         let count = arity(tag);
         let mut j = 1;
         while j <= count {
-            if is_substituted(
+            if walk_substituted(
                 rows,
                 k + binders(tag, j),
                 put,
                 word(rows, t, j),
                 word(rows, u, j),
+                held,
             ) {
                 j += 1;
             } else {

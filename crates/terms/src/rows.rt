@@ -4,7 +4,7 @@ ghost use mathlib.Core.Path.{_≡_};
 ghost use Prim.Native.Nat.{_+_, _*_, _<_, _≤_};
 ghost use lib.ListN.{length};
 ghost use Rattle.terms.specs.Rows.{word as wordOf};
-ghost use Rattle.terms.specs.Sizes.{rowOf, holdsRow, repeatedBelow};
+ghost use Rattle.terms.specs.Sizes.{rowOf, holdsRow};
 
 // The five words of a row, whether or not a table holds them.
 pub struct Row {
@@ -50,19 +50,4 @@ pub fn holds(rows: &[u8], n: usize, row: Row) -> bool
         & (word(rows, n, 2) == row.b)
         & (word(rows, n, 3) == row.c)
         & (word(rows, n, 4) == row.d)
-}
-
-// Does a row before `n` hold these five words?
-pub fn repeated(rows: &[u8], n: usize, row: Row) -> bool
-    requires { ⌜ 10 * n ≤ length (now rows) ⌝ }
-    ensures { λ r. ⌜ r ≡ repeatedBelow (now (rows .entry)) row n ⌝ }
-{
-    let mut i = 0;
-    while i < n {
-        if holds(rows, i, row) {
-            return true;
-        }
-        i += 1;
-    }
-    false
 }

@@ -72,7 +72,7 @@ fn write_sizes(work: &[u32]) {
 
 // Checks the first `count` rows, and writes the answer and the work buffer that the check leaves.
 pub fn checked(rows: &[u8], count: usize, work: &mut [u32]) -> TermsAnswer
-    requires { ⌜ (10 * count ≤ length (now rows)) × (count ≤ length (now work)) ⌝ }
+    requires { ⌜ (10 * count ≤ length (now rows)) × (count ≤ 3072) × (count ≤ length (now work)) ⌝ }
     ensures { λ r. ⌜ r ≡ checkTerms (now (rows .entry)) count .answer ⌝ }
 {
     let answer = check_terms(rows, count, work);

@@ -47,7 +47,7 @@ is-substituted-requires-2 : tie.Need-is-substituted-requires-2
 is-substituted-requires-2 c κs = (given-of _ _ _ (λ n h. ((omega (arith, c .before .before .before .before .before .before .before .child .ensures .1, h .0)), (h .1 .1 .1 .1 .1 .1 .1 .1 .0, tt))) (rows-known _ _ (c .before .before .before .before .before .before .before .before .before .before .pre)), omega (arith, c .before .before .before .before .before .before .before .before .before .before .pre .given .fewTerms, c .before .before .before .before .before .before .before .child .ensures .1, c .before .before .before .before .before .before .before .before .before .before .pre .below .0))
 
 is-substituted-requires-3 : tie.Need-is-substituted-requires-3
-is-substituted-requires-3 c κs = (given-of _ _ _ (λ n h. (h .1 .1 .1 .1 .1 .1 .1 .0, (h .1 .0, ((omega (arith, c .before .before .before .before .before .before .before .before .child .ensures .1, h .0)), (h .1 .1 .1 .0, (h .1 .1 .1 .1 .1 .0, (h .1 .1 .1 .1 .1 .1 .1 .0, tt))))))) (rows-known _ _ (c .before .before .before .before .before .before .before .before .before .before .before .pre)), omega (arith, c .before .before .before .before .before .before .before .before .before .before .before .pre .given .fewTerms, c .before .before .before .before .before .before .before .before .before .before .before .pre .below .1 .1 .1 .1 .1 .1 .1 .0))
+is-substituted-requires-3 c κs = (given-of _ _ _ (λ n h. (h .1 .1 .1 .1 .1 .1 .1 .0, (h .1 .0, ((omega (arith, c .before .before .before .before .before .before .before .before .child .ensures .1, h .0)), (omega (arith, h, c .before .before .before .before .before .before .before .child2 .ensures .1), (h .1 .1 .1 .1 .1 .0, (h .1 .1 .1 .1 .1 .1 .1 .0, tt))))))) (rows-known _ _ (c .before .before .before .before .before .before .before .before .before .before .before .pre)), omega (arith, c .before .before .before .before .before .before .before .before .before .before .before .pre .given .fewTerms, c .before .before .before .before .before .before .before .before .before .before .before .pre .below .1 .1 .1 .1 .1 .1 .1 .0))
 
 is-substituted-requires-4 : tie.Need-is-substituted-requires-4
 is-substituted-requires-4 c κs = (given-of _ _ _ (λ n h. ((omega (arith, c .before .before .before .before .before .before .before .before .before .child .ensures .1, h .0)), (h .1 .1 .0, ((omega (arith, c .before .before .before .before .before .before .before .before .child2 .ensures .1, h .0)), tt)))) (rows-known _ _ (c .before .before .before .before .before .before .before .before .before .before .before .before .pre)), omega (arith, c .before .before .before .before .before .before .before .before .before .before .before .before .pre .given .fewTerms, c .before .before .before .before .before .before .before .before .before .child .ensures .1, c .before .before .before .before .before .before .before .before .before .before .before .before .pre .below .0))

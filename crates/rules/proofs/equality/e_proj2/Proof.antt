@@ -37,7 +37,7 @@ is-node-requires-3 : tie.Need-is-node-requires-3
 is-node-requires-3 c κs = given-of _ _ _ (λ n h. (h .1 .1 .1 .1 .1 .0, ((omega (arith, c .before .before .before .child .ensures .1, h .1 .1 .1 .1 .1 .0)), ((omega (arith, c .before .before .child2 .ensures .1, h .1 .1 .1 .1 .1 .0)), tt)))) (c .before .before .before .before .before .pre)
 
 is-substituted-requires : tie.Need-is-substituted-requires
-is-substituted-requires c κs = (given-of _ _ _ (λ n h. ((omega (arith, c .before .before .before .before .child2 .ensures .1, h .1 .1 .1 .1 .1 .0)), (h .1 .1 .0, (h .1 .1 .1 .0, tt)))) (c .before .before .before .before .before .before .before .pre), omega (arith, c .before .before .before .before .before .before .before .pre .few, c .before .before .before .before .child2 .ensures .1, c .before .before .before .before .before .before .before .pre .below .1 .1 .1 .1 .1 .0))
+is-substituted-requires c κs = (given-of _ _ _ (λ n h. ((omega (arith, c .before .before .before .before .child2 .ensures .1, h .1 .1 .1 .1 .1 .0)), (h .1 .1 .0, (omega (arith, h), tt)))) (c .before .before .before .before .before .before .before .pre), omega (arith, c .before .before .before .before .before .before .before .pre .few, c .before .before .before .before .child2 .ensures .1, c .before .before .before .before .before .before .before .pre .below .1 .1 .1 .1 .1 .0))
 
 returns : tie.Need-returns
 unfolding judgmentOf _⟨_⟩

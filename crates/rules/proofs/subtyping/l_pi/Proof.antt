@@ -4,6 +4,7 @@ use mathlib.Core.Path.{_≡_, refl}
 use mathlib.Core.Logic.{_↔_}
 use mathlib.Core.List.{[], _∷_}
 use mathlib.Core.Bool.{_&&_}
+use native.Mathlib.Omega.{arith}
 use Rattle.terms.specs.Term.{Term, pi}
 use Rattle.terms.specs.Tag.{child}
 use Rattle.terms.proofs.Tests.{decides-via, decides-both, given-of}
@@ -24,10 +25,10 @@ extends-requires : tie.Need-extends-requires
 extends-requires c κs = rows-of _ _ (c .before .before .pre) _ _ (c .before .before .pre .given .within .1 .1 .0, (c .before .before .pre .given .within .0, tt)) (c .before .before .pre .below .1 .1 .1 .0, tt)
 
 is-node-requires : tie.Need-is-node-requires
-is-node-requires c κs = given-of _ _ _ (λ n h. (h .0, (h .1 .1 .1 .0, (h .1 .1 .1 .1 .0, tt)))) (rows-known _ _ (c .before .before .before .pre))
+is-node-requires c κs = given-of _ _ _ (λ n h. (h .0, (omega (arith, h), (h .1 .1 .1 .1 .0, tt)))) (rows-known _ _ (c .before .before .before .pre))
 
 is-node-requires-2 : tie.Need-is-node-requires-2
-is-node-requires-2 c κs = given-of _ _ _ (λ n h. (h .1 .0, (h .1 .1 .0, (h .1 .1 .1 .1 .1 .0, tt)))) (rows-known _ _ (c .before .before .before .before .pre))
+is-node-requires-2 c κs = given-of _ _ _ (λ n h. (h .1 .0, (omega (arith, h), (h .1 .1 .1 .1 .1 .0, tt)))) (rows-known _ _ (c .before .before .before .before .pre))
 
 returns : tie.Need-returns
 unfolding judgmentOf

@@ -1,0 +1,172 @@
+//! What is measured: single inputs, and sweeps over one size.
+
+use crate::sheets;
+
+/// What is asked of a sheet.
+#[derive(Clone, Copy)]
+pub enum Call {
+    Admit,
+    Find([u32; 5]),
+    Withdraw(usize),
+}
+
+pub struct Input {
+    pub name: String,
+    pub sheet: Vec<u8>,
+    pub call: Call,
+}
+
+/// Inputs that differ in one size.
+pub struct Sweep {
+    pub title: &'static str,
+    pub size: &'static str,
+    pub inputs: Vec<(usize, Input)>,
+}
+
+fn admit(name: &str, sheet: Vec<u8>) -> Input {
+    Input {
+        name: format!("admit {name}"),
+        sheet,
+        call: Call::Admit,
+    }
+}
+
+impl Input {
+    /// T, C and L.
+    pub fn counts(&self) -> [usize; 3] {
+        let trailer = &self.sheet[self.sheet.len() - 16..];
+        [0, 2, 4].map(|j| usize::from(u16::from_le_bytes([trailer[j], trailer[j + 1]])))
+    }
+
+    /// The judgment of the last line.
+    fn last_judgment(&self) -> [u32; 5] {
+        let line = &self.sheet[self.sheet.len() - 36..];
+        [0, 2, 3, 4, 5].map(|j| u32::from(u16::from_le_bytes([line[2 * j], line[2 * j + 1]])))
+    }
+
+    /// A search for the last line's judgment, and the withdrawal of the last line.
+    fn other_calls(&self) -> [Input; 2] {
+        let [_, _, lines] = self.counts();
+        let with = |word: &str, call| Input {
+            name: self.name.replacen("admit", word, 1),
+            sheet: self.sheet.clone(),
+            call,
+        };
+        [
+            with("find in", Call::Find(self.last_judgment())),
+            with("withdraw from", Call::Withdraw(lines - 1)),
+        ]
+    }
+}
+
+/// A sheet by doublings, terms and lines.
+type Build = fn(u32, usize, usize) -> Vec<u8>;
+
+/// The doublings that give nearly 65,535 nodes.
+const LARGEST: u32 = 13;
+
+pub fn single() -> Vec<Input> {
+    let typical = admit("typical", sheets::typical());
+    let full = admit("full", sheets::plausible(3072, 256, 1024));
+    let mut all = vec![admit("S", sheets::sample())];
+    for input in [typical, full] {
+        let others = input.other_calls();
+        all.push(input);
+        all.extend(others);
+    }
+    all.push(admit("equal heads", sheets::equal_heads(3072, 256, 1024)));
+    all.push(admit("deep context", sheets::deep_context(252)));
+    all.push(admit("deep binders", sheets::deep_binders(100, 13)));
+    let trees: [(&str, Build); 3] = [
+        ("applications, closed tree", sheets::applications),
+        ("beta steps, open tree", sheets::beta_steps),
+        ("induction steps, large motive", sheets::induction_steps),
+    ];
+    for (name, build) in trees {
+        all.push(admit(name, build(LARGEST, 3072, 1024)));
+    }
+    all
+}
+
+pub fn sweeps() -> Vec<Sweep> {
+    let mut all = count_sweeps();
+    all.extend(tree_sweeps());
+    all
+}
+
+/// Sweeps over T and over L.
+fn count_sweeps() -> Vec<Sweep> {
+    vec![
+        sweep(
+            "terms, plausible rows (C = 64, L = 256)",
+            "T",
+            &[384, 768, 1536, 3072],
+            |t| sheets::plausible(t, 64, 256),
+        ),
+        sweep(
+            "terms, equal heads (C = 0, L = 0)",
+            "T",
+            &[384, 768, 1536, 3072],
+            |t| sheets::equal_heads(t, 0, 0),
+        ),
+        sweep(
+            "lines, plausible (T = 1,536, C = 64)",
+            "L",
+            &[128, 256, 512, 1024],
+            |l| sheets::plausible(1536, 64, l),
+        ),
+        sweep(
+            "lines, induction steps at trees of 8,060 nodes (T = 3,072)",
+            "L",
+            &[256, 512, 768, 1024],
+            |l| sheets::induction_steps(10, 3072, l),
+        ),
+    ]
+}
+
+/// Sweeps over the nodes of the large trees.
+fn tree_sweeps() -> Vec<Sweep> {
+    vec![
+        tree_sweep(
+            "tree size, induction steps (T = 3,072, L = 256)",
+            sheets::induction_steps,
+            &[7, 8, 9, 10, 11, 12, LARGEST],
+        ),
+        tree_sweep(
+            "tree size, beta steps (T = 3,072, L = 256)",
+            sheets::beta_steps,
+            &[7, 10, LARGEST],
+        ),
+        tree_sweep(
+            "tree size, applications (T = 3,072, L = 256)",
+            sheets::applications,
+            &[7, 10, LARGEST],
+        ),
+    ]
+}
+
+fn tree_sweep(title: &'static str, build: Build, doublings: &[u32]) -> Sweep {
+    let inputs = doublings.iter().map(|&d| {
+        let sheet = build(d, 3072, 256);
+        (sheets::large_nodes(d), admit("", sheet))
+    });
+    Sweep {
+        title,
+        size: "nodes",
+        inputs: inputs.collect(),
+    }
+}
+
+fn sweep(
+    title: &'static str,
+    size: &'static str,
+    sizes: &[usize],
+    build: fn(usize) -> Vec<u8>,
+) -> Sweep {
+    let inputs = sizes.iter().map(|&n| (n, admit("", build(n))));
+    Sweep {
+        title,
+        size,
+        inputs: inputs.collect(),
+    }
+}

@@ -1,0 +1,101 @@
+//! Times of the proved library and of the tuned checker on one input, taken in turn.
+
+use crate::inputs::{Call, Input};
+use crate::report::Measured;
+use crate::tuned::Checker;
+use mengyubad::Answer;
+use std::hint::black_box;
+use std::time::{Duration, Instant};
+
+/// The least time of a sample; a shorter call is repeated.
+const SAMPLE: Duration = Duration::from_millis(3);
+/// How many samples are taken, and how many where one takes longer than `LONG`.
+const SAMPLES: usize = 45;
+const LONG_SAMPLES: usize = 15;
+const LONG: f64 = 0.05;
+
+/// Both sides and their buffers, which are allocated once and not cleared.
+pub struct Bench {
+    pub checker: Checker,
+    work: Vec<u32>,
+    out: Vec<u8>,
+}
+
+impl Bench {
+    pub fn new() -> Self {
+        Bench {
+            checker: Checker::new(),
+            work: vec![0; 3072],
+            out: vec![0; 52_240],
+        }
+    }
+
+    fn proved(&mut self, input: &Input) -> Answer {
+        let sheet = black_box(&input.sheet[..]);
+        match input.call {
+            Call::Admit => mengyubad::admit(sheet, &mut self.work),
+            Call::Find(wanted) => mengyubad::find(sheet, &mut self.work, wanted),
+            Call::Withdraw(n) => mengyubad::withdraw(sheet, n, &mut self.work, &mut self.out),
+        }
+    }
+
+    fn tuned(&mut self, input: &Input) -> Answer {
+        let sheet = black_box(&input.sheet[..]);
+        match input.call {
+            Call::Admit => self.checker.admit(sheet, &mut self.work),
+            Call::Find(wanted) => self.checker.find(sheet, &mut self.work, wanted),
+            Call::Withdraw(n) => self
+                .checker
+                .withdraw(sheet, n, &mut self.work, &mut self.out),
+        }
+    }
+
+    /// The medians of interleaved samples, after a warm-up that also settles how often a sample repeats the call.
+    pub fn measure(&mut self, input: &Input) -> Measured {
+        let proved_calls = calibrated(|| self.proved(input));
+        let tuned_calls = calibrated(|| self.tuned(input));
+        let (mut proved, mut tuned) = (Vec::new(), Vec::new());
+        let mut samples = SAMPLES;
+        while proved.len() < samples {
+            let seconds = timed(proved_calls, || self.proved(input));
+            if seconds > LONG {
+                samples = LONG_SAMPLES;
+            }
+            proved.push(seconds);
+            tuned.push(timed(tuned_calls, || self.tuned(input)));
+        }
+        Measured {
+            proved: median(proved),
+            tuned: median(tuned),
+        }
+    }
+}
+
+/// How many calls fill a sample.
+fn calibrated(mut call: impl FnMut() -> Answer) -> u32 {
+    let mut calls = 1;
+    loop {
+        let start = Instant::now();
+        for _ in 0..calls {
+            black_box(call());
+        }
+        if start.elapsed() >= SAMPLE {
+            return calls;
+        }
+        calls *= 2;
+    }
+}
+
+/// Seconds for one call, over a sample of some.
+fn timed(calls: u32, mut call: impl FnMut() -> Answer) -> f64 {
+    let start = Instant::now();
+    for _ in 0..calls {
+        black_box(call());
+    }
+    start.elapsed().as_secs_f64() / f64::from(calls)
+}
+
+fn median(mut times: Vec<f64>) -> f64 {
+    times.sort_by(f64::total_cmp);
+    times[times.len() / 2]
+}

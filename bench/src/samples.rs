@@ -1,0 +1,157 @@
+//! Tests: the sample sheets with their known answers, and damaged sheets, on both sides.
+
+use crate::agree::{proved, tuned};
+use crate::inputs::Call;
+use crate::sheets;
+use crate::tuned::Checker;
+use mengyubad::Answer;
+use std::fs;
+use std::path::PathBuf;
+
+fn folder() -> PathBuf {
+    PathBuf::from(env!("CARGO_MANIFEST_DIR")).join("../crates/samples")
+}
+
+fn sample(name: &str) -> Vec<u8> {
+    fs::read(folder().join("data").join(name)).expect("a sample sheet")
+}
+
+/// All sample sheets.
+fn samples() -> Vec<Vec<u8>> {
+    let entries = fs::read_dir(folder().join("data")).expect("the folder of samples");
+    let paths = entries.map(|entry| entry.expect("an entry").path());
+    let sheets = paths.filter(|path| path.extension().is_some_and(|e| e == "sheet"));
+    sheets
+        .map(|path| fs::read(path).expect("a sheet"))
+        .collect()
+}
+
+/// The answer as the programs print it.
+fn printed(answer: Answer, values: usize) -> String {
+    let (word, numbers) = match answer.number {
+        0 => ("ok", answer.values[..values].to_vec()),
+        number => ("refused", vec![number, answer.values[0]]),
+    };
+    let numbers: Vec<String> = numbers.iter().map(usize::to_string).collect();
+    format!("{word} {}", numbers.join(" "))
+}
+
+/// Both sides leave the same behind.
+fn alike(checker: &mut Checker, sheet: &[u8], call: Call, words: usize, room: usize) -> Answer {
+    let one = proved(sheet, call, words, room);
+    let other = tuned(checker, sheet, call, words, room);
+    assert_eq!(one.0, other.0);
+    assert!(one == other, "the buffers differ after {:?}", one.0);
+    one.0
+}
+
+/// The numbers of terms and lines that a trailer states, if there is one.
+fn stated(sheet: &[u8]) -> (usize, usize) {
+    let Some(trailer) = sheet.last_chunk::<16>() else {
+        return (0, 0);
+    };
+    let word = |j: usize| usize::from(u16::from_le_bytes([trailer[j], trailer[j + 1]]));
+    (word(0).min(3072), word(4).min(1024))
+}
+
+/// What a list asks of a sheet: no number, a line to withdraw, or a judgment to find; and how many values the answer prints.
+fn asked(numbers: &[usize]) -> (Call, usize) {
+    match *numbers {
+        [] => (Call::Admit, 3),
+        [line] => (Call::Withdraw(line), 1),
+        [form, context, s1, s2, s3] => {
+            let wanted = [form, context, s1, s2, s3].map(|n| n as u32);
+            (Call::Find(wanted), 1)
+        }
+        _ => panic!("a list asks with none, one or five numbers"),
+    }
+}
+
+/// A line of the list is a sheet, what is asked of it, and the answer. A line that is an answer only is that to the sheet written last.
+#[test]
+fn samples_are_answered_as_listed() {
+    let listed = fs::read_to_string(folder().join("stdout")).expect("the list of answers");
+    let mut checker = Checker::new();
+    let mut written = Vec::new();
+    for line in listed.lines() {
+        let words: Vec<&str> = line.split(' ').collect();
+        let is_answer = |w: &&str| *w == "ok" || *w == "refused";
+        let at = words.iter().position(is_answer).expect("an answer");
+        let sheet = match at {
+            0 => std::mem::take(&mut written),
+            _ => sample(words[0]),
+        };
+        let numbers = words[..at]
+            .iter()
+            .skip(1)
+            .map(|w| w.parse().expect("a number"));
+        let (call, values) = asked(&numbers.collect::<Vec<usize>>());
+        let answer = alike(&mut checker, &sheet, call, 3072, sheet.len());
+        assert_eq!(printed(answer, values), words[at..].join(" "), "{line}");
+        if let (Call::Withdraw(_), 0) = (call, answer.number) {
+            written = tuned(&mut checker, &sheet, call, 3072, sheet.len()).2;
+            written.truncate(answer.values[0]);
+        }
+    }
+}
+
+#[test]
+fn every_line_of_the_samples_is_found_and_withdrawn_alike() {
+    let mut checker = Checker::new();
+    for sheet in samples() {
+        let (terms, lines) = stated(&sheet);
+        let length = sheet.len();
+        let mut alike = |call, words, room| alike(&mut checker, &sheet, call, words, room);
+        alike(Call::Admit, terms, 0);
+        alike(Call::Admit, terms.saturating_sub(1), 0);
+        for n in 0..lines + 2 {
+            alike(Call::Find([1, 0, n as u32, 0, 1]), terms, 0);
+            alike(Call::Withdraw(n), terms, length);
+            alike(Call::Withdraw(n), terms + 1, length.saturating_sub(20));
+            alike(Call::Withdraw(n), terms, length.saturating_sub(21));
+        }
+    }
+}
+
+/// Changes one word of a sheet: by one, to a small number, or to that of another place.
+fn damaged(sheet: &[u8], next: &mut impl FnMut(usize) -> usize) -> Vec<u8> {
+    let mut sheet = sheet.to_vec();
+    let at = 2 * next(sheet.len() / 2);
+    let word = u16::from_le_bytes([sheet[at], sheet[at + 1]]);
+    let other = 2 * next(sheet.len() / 2);
+    let new = match next(4) {
+        0 => word.wrapping_add(1),
+        1 => word.wrapping_sub(1),
+        2 => next(16) as u16,
+        _ => u16::from_le_bytes([sheet[other], sheet[other + 1]]),
+    };
+    sheet[at..at + 2].copy_from_slice(&new.to_le_bytes());
+    sheet
+}
+
+#[test]
+fn damaged_sheets_are_answered_alike() {
+    let mut state = 0x9E37_79B9_7F4A_7C15_u64;
+    let mut next = |below: usize| {
+        state ^= state << 13;
+        state ^= state >> 7;
+        state ^= state << 17;
+        ((state >> 20) % below as u64) as usize
+    };
+    let mut all = samples();
+    all.retain(|sheet| sheet.len() >= 50);
+    all.push(sheets::typical());
+    all.push(sheets::deep_binders(20, 8));
+    all.push(sheets::beta_steps(4, 0, 400));
+    all.push(sheets::induction_steps(4, 0, 400));
+    let mut checker = Checker::new();
+    let mut answered = [0; 15];
+    for round in 0..40_000 {
+        let sheet = damaged(&all[round % all.len()], &mut next);
+        let call = Call::Withdraw(next(30));
+        let answer = alike(&mut checker, &sheet, call, 3072, sheet.len());
+        answered[answer.number] += 1;
+    }
+    let expected = [0, 2, 3, 5, 6, 8, 9, 10, 11, 12];
+    assert!(expected.iter().all(|&n| answered[n] > 0), "{answered:?}");
+}

@@ -1,0 +1,33 @@
+//! Sheets to measure on.
+
+mod builder;
+mod deep;
+mod heads;
+mod plausible;
+mod shared;
+mod steps;
+mod terms;
+mod trees;
+
+pub use deep::{deep_binders, deep_context};
+pub use heads::equal_heads;
+pub use plausible::{plausible, typical};
+pub use trees::{applications, beta_steps, induction_steps, large_nodes};
+
+use builder::Builder;
+
+/// The sample sheet S: the identity on Nat.
+pub fn sample() -> Vec<u8> {
+    let mut b = Builder::default();
+    let nat = b.nat();
+    b.univ(0);
+    let x = b.var(0);
+    b.lam(x);
+    b.pi(nat, nat);
+    let nil = b.wf_nil();
+    let kind = b.wt_nat(nil, 0);
+    let wf = b.wf_cons(nil, kind);
+    let x = b.wt_var(wf, 0);
+    b.wt_abs(x);
+    b.bytes()
+}

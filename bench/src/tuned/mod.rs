@@ -1,0 +1,102 @@
+//! Admission, finding and withdrawal, written for speed. The answers and the buffers are those of the proved library.
+
+mod contexts;
+mod equality;
+mod images;
+mod index;
+mod instances;
+mod layout;
+mod lines;
+mod memo;
+mod rows;
+mod subtyping;
+mod table;
+mod typing;
+mod withdrawal;
+
+use instances::Tables;
+use layout::Counts;
+use lines::Line;
+use mengyubad::Answer;
+
+/// Holds one sheet at a time; its memory is allocated once.
+pub struct Checker {
+    tables: Tables,
+    lines: Box<[Line; lines::ROOM]>,
+}
+
+fn refused(number: usize, place: usize) -> Answer {
+    Answer {
+        number,
+        values: [place, 0, 0],
+    }
+}
+
+fn accepted(values: [usize; 3]) -> Answer {
+    Answer { number: 0, values }
+}
+
+impl Checker {
+    pub fn new() -> Self {
+        Checker {
+            tables: Tables::new(),
+            lines: Box::new([Line::default(); lines::ROOM]),
+        }
+    }
+
+    pub fn admit(&mut self, sheet: &[u8], work: &mut [u32]) -> Answer {
+        match self.check(sheet, work) {
+            Err(answer) => answer,
+            Ok(n) => accepted([n.terms, n.contexts, n.lines]),
+        }
+    }
+
+    /// The lowest line with form, context, s1, s2, s3.
+    pub fn find(&mut self, sheet: &[u8], work: &mut [u32], wanted: [u32; 5]) -> Answer {
+        let counts = match self.check(sheet, work) {
+            Err(answer) => return answer,
+            Ok(counts) => counts,
+        };
+        let stated = |line: &Line| {
+            [line.form, line.context, line.s1, line.s2, line.s3].map(u32::from) == wanted
+        };
+        match self.lines[..counts.lines].iter().position(stated) {
+            Some(n) => accepted([n, 0, 0]),
+            None => refused(14, 0),
+        }
+    }
+
+    /// The counts of an accepted sheet, or the refusal.
+    fn check(&mut self, sheet: &[u8], work: &mut [u32]) -> Result<Counts, Answer> {
+        let counts = layout::read(sheet, work.len()).map_err(|k| refused(k, 0))?;
+        let (terms, rest) = sheet.split_at(counts.contexts_at());
+        let (contexts, rest) = rest.split_at(4 * counts.contexts);
+        let lines = &rest[..20 * counts.lines];
+        self.tables
+            .rows
+            .check(terms, &mut work[..counts.terms])
+            .map_err(|(k, n)| refused(k, n))?;
+        self.tables
+            .contexts
+            .check(contexts, counts.terms)
+            .map_err(|n| refused(8, n))?;
+        self.check_lines(lines, counts)
+            .map_err(|(k, n)| refused(k, n))?;
+        Ok(counts)
+    }
+
+    fn check_lines(&mut self, bytes: &[u8], counts: Counts) -> Result<(), (usize, usize)> {
+        self.tables.memo.start();
+        for (n, words) in bytes.chunks_exact(20).enumerate() {
+            let line = Line::read(words.try_into().expect("twenty bytes"));
+            if !line.fits(n, counts.terms, counts.contexts) {
+                return Err((9, n));
+            }
+            if !self.tables.follows(n, &line, &self.lines) {
+                return Err((10, n));
+            }
+            self.lines[n & (lines::ROOM - 1)] = line;
+        }
+        Ok(())
+    }
+}

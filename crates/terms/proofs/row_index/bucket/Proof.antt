@@ -1,0 +1,54 @@
+use mathlib.Core.Path.{refl}
+use native.Mathlib.Omega.{arith}
+use Rattle.terms.specs.RowIndex.{bucketOf}
+use borrow.Author.Needs.{needs}
+use Rattle.terms.proofs.row_index.bucket.Statement.{statement}
+use Rattle.terms.proofs.row_index.bucket.Tie as tie
+use Rattle.terms.proofs.row_index.bucket.Reads as reads
+use Rattle.terms.proofs.row_index.bucket.Lts as lts
+
+mul-mixed : tie.Need-mul-mixed
+mul-mixed c = search needs
+
+mul-mixed-2 : tie.Need-mul-mixed-2
+mul-mixed-2 c = search needs
+
+add-mixed : tie.Need-add-mixed
+add-mixed c = search needs
+
+mul-mixed-3 : tie.Need-mul-mixed-3
+mul-mixed-3 c = search needs
+
+add-mixed-2 : tie.Need-add-mixed-2
+add-mixed-2 c = search needs
+
+mul-mixed-4 : tie.Need-mul-mixed-4
+mul-mixed-4 c = search needs
+
+add-mixed-3 : tie.Need-add-mixed-3
+add-mixed-3 c = search needs
+
+mul-mixed-5 : tie.Need-mul-mixed-5
+mul-mixed-5 c = search needs
+
+add-mixed-4 : tie.Need-add-mixed-4
+add-mixed-4 c = search needs
+
+returns : tie.Need-returns
+unfolding bucketOf
+returns c = (refl, omega arith)
+
+pub bucket-spec : {M : Type 1} → statement M
+bucket-spec =
+    tie.close
+    (tie.spec
+    mul-mixed
+    mul-mixed-2
+    add-mixed
+    mul-mixed-3
+    add-mixed-2
+    mul-mixed-4
+    add-mixed-3
+    mul-mixed-5
+    add-mixed-4
+    returns)

@@ -1,0 +1,240 @@
+//! Calls the reference and the proved library with equal arguments and compares all that they leave.
+
+use crate::coverage::Coverage;
+use crate::random::Random;
+use crate::reference::layout::{word, Counts, LINE_ROW, MAX_TERMS, TRAILER};
+use crate::reference::reading::Reading;
+use crate::reference::Answer;
+
+/// The three calls on a sheet.
+#[derive(Clone, Copy, Debug)]
+enum Call {
+    Admit,
+    Find([u32; 5]),
+    Withdraw(usize),
+}
+
+/// What a call answered and left in its buffers.
+#[derive(PartialEq, Eq)]
+struct Outcome {
+    answer: Answer,
+    work: Vec<u32>,
+    out: Vec<u8>,
+}
+
+pub struct Comparer<'a> {
+    sheet: &'a [u8],
+    reading: &'a Reading,
+    random: &'a mut Random,
+    coverage: &'a mut Coverage,
+    differences: Vec<String>,
+    /// What a withdrawal wrote.
+    withdrawn: Option<Vec<u8>>,
+}
+
+/// Compares the calls on one sheet, with buffers of several lengths and random contents. The differences, as text.
+pub fn compare(sheet: &[u8], random: &mut Random, coverage: &mut Coverage) -> Vec<String> {
+    let reading = Reading::of(sheet);
+    coverage.add_input(sheet, &reading);
+    let mut comparer = Comparer {
+        sheet,
+        reading: &reading,
+        random,
+        coverage,
+        differences: Vec::new(),
+        withdrawn: None,
+    };
+    comparer.compare_admissions();
+    match reading.counts.filter(|_| reading.refusal.is_none()) {
+        Some(counts) => comparer.compare_on_accepted(counts),
+        None => comparer.compare_on_refused(),
+    }
+    comparer.compare_withdrawn();
+    comparer.differences
+}
+
+impl Comparer<'_> {
+    fn terms(&self) -> usize {
+        self.reading.counts.map_or(3, |counts| counts.terms)
+    }
+
+    /// A work length, most likely long enough.
+    fn work_length(&mut self) -> usize {
+        let terms = self.terms();
+        match self.random.below(8) {
+            0 => terms + self.random.below(20),
+            1 => MAX_TERMS,
+            2 => terms + 1,
+            _ => terms,
+        }
+    }
+
+    fn compare_admissions(&mut self) {
+        let length = self.work_length();
+        self.compare_call(Call::Admit, length, 0);
+        if self.random.one_in(4) {
+            let terms = self.terms();
+            let short = if self.random.one_in(2) {
+                terms.saturating_sub(1)
+            } else {
+                self.random.below(terms)
+            };
+            let call = match self.random.below(4) {
+                0 => Call::Find([0; 5]),
+                1 => Call::Withdraw(0),
+                _ => Call::Admit,
+            };
+            self.compare_call(call, short, self.sheet.len());
+        }
+    }
+
+    fn compare_on_refused(&mut self) {
+        let length = self.work_length();
+        if self.random.one_in(2) {
+            self.compare_call(Call::Find([0, 0, 0, 0, 0]), length, 0);
+        } else {
+            let out = self.random.below(self.sheet.len() + 9);
+            self.compare_call(Call::Withdraw(0), length, out);
+        }
+    }
+
+    fn compare_on_accepted(&mut self, counts: Counts) {
+        for _ in 0..2 {
+            let wanted = self.wanted(counts);
+            let length = self.work_length();
+            self.compare_call(Call::Find(wanted), length, 0);
+        }
+        for _ in 0..3 {
+            let line = self.line(counts);
+            let length = self.work_length();
+            let out = self.out_length();
+            self.compare_call(Call::Withdraw(line), length, out);
+        }
+    }
+
+    /// Admission of the sheet that a withdrawal wrote.
+    fn compare_withdrawn(&mut self) {
+        let Some(new) = self.withdrawn.take() else {
+            return;
+        };
+        let reading = Reading::of(&new);
+        let mut comparer = Comparer {
+            sheet: &new,
+            reading: &reading,
+            random: self.random,
+            coverage: self.coverage,
+            differences: Vec::new(),
+            withdrawn: None,
+        };
+        let length = comparer.work_length();
+        comparer.compare_call(Call::Admit, length, 0);
+        self.differences.append(&mut comparer.differences);
+    }
+
+    /// The numbers of some line's judgment, exactly or nearly.
+    fn wanted(&mut self, counts: Counts) -> [u32; 5] {
+        let mut wanted = [0; 5];
+        if counts.lines > 0 {
+            let at = counts.line_at(self.random.below(counts.lines));
+            wanted = [0, 2, 3, 4, 5].map(|place| u32::from(word(self.sheet, at + 2 * place)));
+        }
+        let place = self.random.below(5);
+        match self.random.below(6) {
+            0 => wanted[place] ^= 1,
+            1 => wanted[place] += 0x1_0000,
+            2 => wanted[place] = self.random.word() as u32,
+            _ => {}
+        }
+        wanted
+    }
+
+    /// A line's number: an existing one, most likely a late one, or none.
+    fn line(&mut self, counts: Counts) -> usize {
+        let lines = counts.lines;
+        match self.random.below(11) {
+            0 => lines,
+            1 => lines + self.random.below(9),
+            2 => self.random.word() as usize,
+            3 => self.random.below(lines) + 0x1_0000,
+            4 => (1 << 32) + self.random.below(lines),
+            5 | 6 => self.random.below(lines),
+            7 => 0,
+            _ => lines.saturating_sub(1 + self.random.below(6)),
+        }
+    }
+
+    fn out_length(&mut self) -> usize {
+        let old = self.sheet.len();
+        let new = old.saturating_sub(LINE_ROW);
+        match self.random.below(8) {
+            0 => new.saturating_sub(1),
+            1 => old,
+            2 => old + self.random.below(50),
+            3 => self.random.below(new.max(TRAILER)),
+            4 => new + self.random.below(20),
+            _ => new,
+        }
+    }
+
+    fn compare_call(&mut self, call: Call, work_length: usize, out_length: usize) {
+        let work: Vec<u32> = (0..work_length)
+            .map(|_| self.random.word() as u32)
+            .collect();
+        let fill = self.random.word();
+        let out: Vec<u8> = (0..out_length).map(|i| (fill >> (i % 57)) as u8).collect();
+        let wanted = by_reference(self.reading, self.sheet, call, work.clone(), out.clone());
+        let got = by_library(self.sheet, call, work, out);
+        self.coverage.add_answer(wanted.answer.number);
+        if wanted != got {
+            let text = difference(call, &wanted, &got);
+            self.differences.push(text);
+        }
+        if matches!(call, Call::Withdraw(_)) && wanted.answer.number == 0 {
+            self.withdrawn = Some(wanted.out[..wanted.answer.values[0]].to_vec());
+        }
+    }
+}
+
+fn by_reference(
+    reading: &Reading,
+    sheet: &[u8],
+    call: Call,
+    mut work: Vec<u32>,
+    mut out: Vec<u8>,
+) -> Outcome {
+    let answer = match call {
+        Call::Admit => reading.admit(&mut work),
+        Call::Find(wanted) => reading.find(sheet, &mut work, wanted),
+        Call::Withdraw(line) => reading.withdraw(sheet, line, &mut work, &mut out),
+    };
+    Outcome { answer, work, out }
+}
+
+fn by_library(sheet: &[u8], call: Call, mut work: Vec<u32>, mut out: Vec<u8>) -> Outcome {
+    let answer = match call {
+        Call::Admit => mengyubad::admit(sheet, &mut work),
+        Call::Find(wanted) => mengyubad::find(sheet, &mut work, wanted),
+        Call::Withdraw(line) => mengyubad::withdraw(sheet, line, &mut work, &mut out),
+    };
+    let answer = Answer {
+        number: answer.number,
+        values: answer.values,
+    };
+    Outcome { answer, work, out }
+}
+
+fn difference(call: Call, wanted: &Outcome, got: &Outcome) -> String {
+    let word = first_difference(&wanted.work, &got.work);
+    let byte = first_difference(&wanted.out, &got.out);
+    format!(
+        "{call:?} with {} work words and {} output bytes: reference {:?}, library {:?}, first work word that differs {word:?}, first output byte {byte:?}",
+        wanted.work.len(),
+        wanted.out.len(),
+        wanted.answer,
+        got.answer,
+    )
+}
+
+fn first_difference<T: PartialEq>(a: &[T], b: &[T]) -> Option<usize> {
+    a.iter().zip(b).position(|(x, y)| x != y)
+}

@@ -1,0 +1,116 @@
+//! What a run has seen.
+
+use crate::reference::layout::word;
+use crate::reference::reading::Reading;
+use std::fmt;
+
+/// Runs of at least this many inputs have the greater goals.
+const FULL_RUN: u64 = 100_000;
+const FULL_GOAL: u64 = 1_000;
+
+pub struct Coverage {
+    pub inputs: u64,
+    pub accepted: u64,
+    pub calls: u64,
+    pub differences: u64,
+    /// Lines that the generator made as instances and the reference refused.
+    pub unfit: u64,
+    /// Answers by number over all calls, 0 the successful ones.
+    pub numbers: [u64; 15],
+    pub accepted_lines: [u64; 44],
+    pub refused_lines: [u64; 44],
+}
+
+impl Default for Coverage {
+    fn default() -> Coverage {
+        Coverage {
+            inputs: 0,
+            accepted: 0,
+            calls: 0,
+            differences: 0,
+            unfit: 0,
+            numbers: [0; 15],
+            accepted_lines: [0; 44],
+            refused_lines: [0; 44],
+        }
+    }
+}
+
+impl Coverage {
+    pub fn add_input(&mut self, sheet: &[u8], reading: &Reading) {
+        self.inputs += 1;
+        if let Some(rule) = reading.refused_rule.filter(|rule| (1..=43).contains(rule)) {
+            self.refused_lines[rule as usize] += 1;
+        }
+        let Some(counts) = reading.counts else {
+            return;
+        };
+        let lines = match reading.refusal {
+            None => counts.lines,
+            Some(fault) if fault.number >= 9 => fault.place,
+            Some(_) => 0,
+        };
+        self.accepted += u64::from(reading.refusal.is_none());
+        for line in 0..lines {
+            let rule = word(sheet, counts.line_at(line) + 2);
+            self.accepted_lines[usize::from(rule)] += 1;
+        }
+    }
+
+    pub fn add_answer(&mut self, number: usize) {
+        self.calls += 1;
+        if let Some(count) = self.numbers.get_mut(number) {
+            *count += 1;
+        }
+    }
+
+    pub fn least_accepted(&self) -> u64 {
+        self.accepted_lines[1..].iter().copied().min().unwrap_or(0)
+    }
+
+    pub fn least_refused(&self) -> u64 {
+        self.refused_lines[1..].iter().copied().min().unwrap_or(0)
+    }
+
+    /// The goals that the run missed.
+    pub fn missed(&self) -> Vec<String> {
+        let mut missed = Vec::new();
+        let full = self.inputs >= FULL_RUN;
+        let goal = if full { FULL_GOAL } else { 1 };
+        if self.least_accepted() < goal {
+            missed.push(format!("a rule has fewer than {goal} accepted lines"));
+        }
+        if self.least_refused() < goal {
+            missed.push(format!("a rule has fewer than {goal} refused lines"));
+        }
+        if self.unfit > 0 {
+            missed.push(format!("{} generated lines are no instances", self.unfit));
+        }
+        if full && self.accepted * 3 < self.inputs {
+            missed.push("fewer than a third of the inputs are accepted".to_string());
+        }
+        for number in (1..15).filter(|&number| self.numbers[number] == 0) {
+            missed.push(format!("number {number} was never answered"));
+        }
+        missed
+    }
+}
+
+impl fmt::Display for Coverage {
+    fn fmt(&self, f: &mut fmt::Formatter) -> fmt::Result {
+        writeln!(f, "inputs {}, accepted {}", self.inputs, self.accepted)?;
+        writeln!(f, "calls compared {}", self.calls)?;
+        writeln!(f, "number  answers")?;
+        for (number, count) in self.numbers.iter().enumerate() {
+            writeln!(f, "{number:>6} {count:>8}")?;
+        }
+        writeln!(f, "  rule accepted  refused")?;
+        for rule in 1..44 {
+            let (yes, no) = (self.accepted_lines[rule], self.refused_lines[rule]);
+            writeln!(f, "{rule:>6} {yes:>8} {no:>8}")?;
+        }
+        let (yes, no) = (self.least_accepted(), self.least_refused());
+        writeln!(f, " least {yes:>8} {no:>8}")?;
+        writeln!(f, "differences {}", self.differences)
+    }
+}

@@ -1,0 +1,18 @@
+//! Valid derivations at random, and their encoding as sheets.
+
+pub mod arrange;
+pub mod conclusions;
+mod dependent;
+pub mod derivation;
+pub mod encode;
+mod equalities;
+pub mod grow;
+mod inductions;
+mod infer;
+mod inhabit;
+pub mod maker;
+mod non_instances;
+mod steps;
+mod subtypes;
+mod variants;
+mod weaken;

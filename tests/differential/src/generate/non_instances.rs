@@ -1,0 +1,98 @@
+//! Lines that fail a rule only by what ties its premises together: some premises stand in a longer context, or at an equal type.
+
+use super::conclusions::conclude;
+use super::derivation::Line;
+use super::maker::Maker;
+use crate::reference::judgments::Judgment;
+use crate::reference::rules::instance;
+use crate::reference::terms::Context;
+
+impl Maker {
+    /// A line of the rule that is no instance of it, over lines that are derived.
+    pub fn non_instance(&mut self, rule: u32) -> Option<Line> {
+        let of_rule: Vec<usize> = (0..self.d.lines.len())
+            .filter(|&line| self.d.lines[line].rule == rule)
+            .collect();
+        // The derivation may be full: what a new line needs is added all the same.
+        self.d.max_lines += 60;
+        for _ in 0..3 {
+            let line = self.random.pick(&of_rule)?;
+            let made = self.non_instance_of(line);
+            if made.is_some() {
+                return made;
+            }
+        }
+        None
+    }
+
+    fn non_instance_of(&mut self, line: usize) -> Option<Line> {
+        let old = self.d.lines[line].clone();
+        let longer = self.random.one_in(2);
+        let g = old.judgment.context();
+        let h = if longer { self.longer(g)? } else { g };
+        let chosen = self.chosen(&old.premises, g);
+        let mut premises = old.premises.clone();
+        for place in chosen {
+            let changed = if longer {
+                self.weaken(premises[place], g, h)
+            } else {
+                self.at_redex_type(premises[place])
+            };
+            premises[place] = changed.unwrap_or(premises[place]);
+        }
+        let stated: Vec<Judgment> = premises.iter().map(|&p| self.d.judgment(p)).collect();
+        let mut judgment = conclude(&mut self.d.terms, old.rule, &stated).unwrap_or(old.judgment);
+        if longer && self.random.one_in(2) {
+            judgment = judgment.with(g, &judgment.subjects());
+        }
+        if instance(&mut self.d.terms, old.rule, &stated, judgment) {
+            return None;
+        }
+        Some(Line {
+            judgment,
+            rule: old.rule,
+            premises,
+        })
+    }
+
+    /// The premises that are changed: one, those under more entries than the conclusion, or any.
+    fn chosen(&mut self, premises: &[usize], g: Context) -> Vec<usize> {
+        let places = 0..premises.len();
+        match self.random.below(4) {
+            0 | 1 => vec![self.random.below(premises.len())]
+                .into_iter()
+                .filter(|&place| place < premises.len())
+                .collect(),
+            2 => places
+                .filter(|&place| self.d.judgment(premises[place]).context() != g)
+                .collect(),
+            _ => places.filter(|_| self.random.below(3) > 0).collect(),
+        }
+    }
+
+    fn longer(&mut self, g: Context) -> Option<Context> {
+        let entry = self.some_type(g, 0)?;
+        self.extend(entry)
+    }
+
+    /// The same term or equality at (lambda T) zero instead of T.
+    fn at_redex_type(&mut self, line: usize) -> Option<usize> {
+        let judgment = self.d.judgment(line);
+        let rule = match judgment {
+            Judgment::Typing(..) => 16,
+            Judgment::Equality(..) => 29,
+            _ => return None,
+        };
+        let g = judgment.context();
+        let t = judgment.subjects().last().copied()?;
+        let type_line = self.type_line(g, t, 4)?;
+        let nat = self.nat();
+        let h = self.under(g, nat, 3)?;
+        let body = self.weaken(type_line, g, h)?;
+        let zero = self.zero_in(g)?;
+        let step = self.d.apply(30, &[zero, body])?;
+        let back = self.d.apply(18, &[step])?;
+        let sub = self.d.apply(36, &[back])?;
+        self.d.apply(rule, &[line, sub])
+    }
+}

@@ -1,0 +1,159 @@
+//! The sheets that are compared: valid ones, valid ones at the limits, and changed ones.
+
+use crate::generate::arrange::{after_empty, needed, reordered, repeated};
+use crate::generate::derivation::Line;
+use crate::generate::encode::{encode, Style};
+use crate::generate::grow::{grow, some_kind, successors, Kind};
+use crate::generate::maker::Maker;
+use crate::mutate::bytes::{change_bytes, change_line_at};
+use crate::mutate::lines::change_line;
+use crate::random::Random;
+use crate::reference::layout::{MAX_CONTEXTS, MAX_LINES, MAX_TERMS};
+
+pub struct Inputs {
+    random: Random,
+    /// Rules whose lines were meant as instances and are none, over all derivations.
+    pub unfit: Vec<u32>,
+}
+
+impl Inputs {
+    pub fn new(seed: u64) -> Inputs {
+        Inputs {
+            random: Random::new(seed),
+            unfit: Vec::new(),
+        }
+    }
+
+    /// The next sheet. `refused` counts by rule the lines refused so far: the rules with few are aimed at.
+    pub fn next(&mut self, refused: &[u64; 44]) -> Vec<u8> {
+        match self.random.below(1000) {
+            0..=2 => self.at_limits(),
+            3..=339 => self.valid(),
+            340..=389 => {
+                let sheet = self.valid();
+                change_bytes(&sheet, &mut self.random)
+            }
+            390..=419 => self.with_changed_words(refused),
+            420..=559 => self.with_non_instance(refused),
+            _ => self.with_changed_line(refused),
+        }
+    }
+
+    fn derivation(&mut self) -> Maker {
+        let kind = some_kind(&mut self.random);
+        let mut maker = grow(self.random.word(), kind);
+        self.unfit.append(&mut maker.d.unfit);
+        maker
+    }
+
+    fn style(&mut self) -> Style {
+        Style {
+            shuffled: self.random.one_in(2),
+            unused_one_in: self.random.pick(&[0, 0, 5, 20]).unwrap_or(0),
+            ..Style::default()
+        }
+    }
+
+    /// The lines that are stated: all, or what some of them rest on; reordered; some repeated.
+    fn arranged(&mut self, maker: &Maker) -> Vec<Line> {
+        let all = &maker.d.lines;
+        let mut lines = if self.random.one_in(2) {
+            let goals: Vec<usize> = (0..1 + self.random.below(12))
+                .map(|_| self.random.below(all.len()))
+                .collect();
+            needed(all, &goals)
+        } else {
+            all.clone()
+        };
+        if self.random.one_in(3) {
+            lines = reordered(&lines, &mut self.random);
+        }
+        if self.random.one_in(10) {
+            lines = after_empty(&lines);
+        }
+        if self.random.one_in(8) {
+            let upto = lines.len() + self.random.below(5);
+            lines = repeated(&lines, upto, &mut self.random);
+        }
+        lines
+    }
+
+    fn valid(&mut self) -> Vec<u8> {
+        let mut maker = self.derivation();
+        let lines = self.arranged(&maker);
+        let style = self.style();
+        encode(&mut maker.d.terms, &lines, style, &mut self.random)
+    }
+
+    /// Counts exactly at their limits, or one of them one over.
+    fn at_limits(&mut self) -> Vec<u8> {
+        let mut maker = match self.random.below(4) {
+            0 => successors(MAX_LINES - 2),
+            1 => grow(self.random.word(), Kind::Large),
+            2 => grow(self.random.word(), Kind::LongContext),
+            _ => self.derivation(),
+        };
+        let over = self.random.below(6);
+        let mut lines = maker.d.lines.clone();
+        if over == 2 || self.random.one_in(2) {
+            let upto = MAX_LINES + usize::from(over == 2);
+            lines = repeated(&lines, upto, &mut self.random);
+        }
+        let mut style = self.style();
+        if over == 0 || self.random.one_in(2) {
+            style.upto_terms = MAX_TERMS + usize::from(over == 0);
+        }
+        if over == 1 || self.random.one_in(2) {
+            style.upto_contexts = MAX_CONTEXTS + usize::from(over == 1);
+        }
+        encode(&mut maker.d.terms, &lines, style, &mut self.random)
+    }
+
+    /// A line of the rule that was refused least among those of the lines.
+    fn target(&mut self, lines: &[Line], refused: &[u64; 44]) -> usize {
+        let count = |line: &Line| refused[line.rule as usize];
+        let least = lines.iter().min_by_key(|line| count(line));
+        let rule = least.map_or(1, |line| line.rule);
+        let of_rule: Vec<usize> = (0..lines.len())
+            .filter(|&number| lines[number].rule == rule)
+            .collect();
+        self.random.pick(&of_rule).unwrap_or(0)
+    }
+
+    fn with_changed_line(&mut self, refused: &[u64; 44]) -> Vec<u8> {
+        let mut maker = self.derivation();
+        let lines = self.arranged(&maker);
+        let number = self.target(&lines, refused);
+        let lines = change_line(&mut maker.d.terms, &lines, number, &mut self.random);
+        let style = self.style();
+        encode(&mut maker.d.terms, &lines, style, &mut self.random)
+    }
+
+    /// What a line that is no instance rests on, that line, and some others.
+    fn with_non_instance(&mut self, refused: &[u64; 44]) -> Vec<u8> {
+        let mut maker = self.derivation();
+        let target = self.target(&maker.d.lines, refused);
+        let rule = maker.d.lines[target].rule;
+        let non_instance = maker.non_instance(rule);
+        self.unfit.append(&mut maker.d.unfit);
+        let mut all = maker.d.lines.clone();
+        match non_instance {
+            Some(line) => all.push(line),
+            None => all = change_line(&mut maker.d.terms, &all, target, &mut self.random),
+        }
+        let goals = [all.len() - 1, target, self.random.below(all.len())];
+        let lines = needed(&all, &goals);
+        let style = self.style();
+        encode(&mut maker.d.terms, &lines, style, &mut self.random)
+    }
+
+    fn with_changed_words(&mut self, refused: &[u64; 44]) -> Vec<u8> {
+        let mut maker = self.derivation();
+        let lines = self.arranged(&maker);
+        let number = self.target(&lines, refused);
+        let style = self.style();
+        let mut sheet = encode(&mut maker.d.terms, &lines, style, &mut self.random);
+        change_line_at(&mut sheet, number, &mut self.random);
+        sheet
+    }
+}

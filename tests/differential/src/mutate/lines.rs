@@ -1,0 +1,117 @@
+//! Changes of one line of a derivation, before it is encoded.
+
+use super::misread::misread;
+use super::perturb::perturbed;
+use super::premises::change_premise;
+use crate::generate::derivation::Line;
+use crate::random::Random;
+use crate::reference::judgments::Judgment;
+use crate::reference::rules::{conclusion_form, instance, premise_count};
+use crate::reference::terms::{Term, Terms};
+
+/// The lines with the given one changed so that it is most likely no instance of its rule.
+pub fn change_line(
+    terms: &mut Terms,
+    lines: &[Line],
+    number: usize,
+    random: &mut Random,
+) -> Vec<Line> {
+    let mut changed = lines.to_vec();
+    for _ in 0..6 {
+        changed[number] = changed_once(terms, lines, number, random);
+        if !follows(terms, lines, &changed[number]) {
+            break;
+        }
+    }
+    changed
+}
+
+/// Whether the line is an instance still.
+fn follows(terms: &mut Terms, lines: &[Line], line: &Line) -> bool {
+    let stated: Vec<Judgment> = line.premises.iter().map(|&p| lines[p].judgment).collect();
+    instance(terms, line.rule, &stated, line.judgment)
+}
+
+fn changed_once(terms: &mut Terms, lines: &[Line], number: usize, random: &mut Random) -> Line {
+    if random.below(5) < 2 {
+        return change_premise(terms, lines, number, random);
+    }
+    let mut line = lines[number].clone();
+    match random.below(10) {
+        0..=2 => {
+            let stated: Vec<Judgment> = line.premises.iter().map(|&p| lines[p].judgment).collect();
+            let wrong = misread(terms, line.rule, &stated, line.judgment, random);
+            line.judgment = wrong.unwrap_or(line.judgment);
+        }
+        3 | 4 => perturb_subject(terms, lines, &mut line, random),
+        5 => other_subject(lines, &mut line, random),
+        6 => exchange_subjects(&mut line, random),
+        7 => other_context(terms, lines, &mut line, random),
+        8 => exchange_premises(&mut line, random),
+        _ => other_rule(&mut line, number, random),
+    }
+    line
+}
+
+/// Terms that the lines before speak of.
+fn pool(lines: &[Line], random: &mut Random) -> Vec<Term> {
+    let near = (0..8).map(|_| &lines[random.below(lines.len())]);
+    near.flat_map(|line| line.judgment.subjects()).collect()
+}
+
+fn perturb_subject(terms: &mut Terms, lines: &[Line], line: &mut Line, random: &mut Random) {
+    let mut subjects = line.judgment.subjects();
+    if subjects.is_empty() {
+        return;
+    }
+    let place = random.below(subjects.len());
+    let pool = pool(lines, random);
+    subjects[place] = perturbed(terms, subjects[place], &pool, random);
+    line.judgment = line.judgment.with(line.judgment.context(), &subjects);
+}
+
+fn other_subject(lines: &[Line], line: &mut Line, random: &mut Random) {
+    let mut subjects = line.judgment.subjects();
+    let pool = pool(lines, random);
+    if let (false, Some(other)) = (subjects.is_empty(), random.pick(&pool)) {
+        let place = random.below(subjects.len());
+        subjects[place] = other;
+        line.judgment = line.judgment.with(line.judgment.context(), &subjects);
+    }
+}
+
+fn exchange_subjects(line: &mut Line, random: &mut Random) {
+    let mut subjects = line.judgment.subjects();
+    random.shuffle(&mut subjects);
+    line.judgment = line.judgment.with(line.judgment.context(), &subjects);
+}
+
+fn other_context(terms: &mut Terms, lines: &[Line], line: &mut Line, random: &mut Random) {
+    let old = line.judgment.context();
+    let subjects = line.judgment.subjects();
+    let parent = terms.last(old).map(|(parent, _)| parent);
+    let context = match (random.below(3), parent, subjects.first()) {
+        (0, Some(parent), _) => parent,
+        (1, _, Some(&entry)) => terms.extend(old, entry),
+        _ => lines[random.below(lines.len())].judgment.context(),
+    };
+    line.judgment = line.judgment.with(context, &subjects);
+}
+
+fn exchange_premises(line: &mut Line, random: &mut Random) {
+    random.shuffle(&mut line.premises);
+}
+
+/// Another rule of the same form; premises are cut off or added to fit its count.
+fn other_rule(line: &mut Line, number: usize, random: &mut Random) {
+    let rule = 1 + random.below(43) as u32;
+    if conclusion_form(rule) != Some(line.judgment.form()) {
+        return;
+    }
+    line.rule = rule;
+    let count = premise_count(rule);
+    line.premises.truncate(count);
+    while line.premises.len() < count {
+        line.premises.push(random.below(number));
+    }
+}

@@ -1,0 +1,7 @@
+//! Changes of valid sheets, so that most become invalid in one place.
+
+pub mod bytes;
+pub mod lines;
+mod misread;
+mod perturb;
+mod premises;

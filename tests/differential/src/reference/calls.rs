@@ -1,0 +1,133 @@
+//! The three calls: admission, finding, withdrawal, with what they leave in the buffers.
+
+use super::layout::{set_word, word, Counts, LINE_ROW};
+use super::reading::Reading;
+use super::rules::premise_count;
+use super::{Answer, Refusal};
+
+pub fn admit(sheet: &[u8], work: &mut [u32]) -> Answer {
+    Reading::of(sheet).admit(work)
+}
+
+pub fn find(sheet: &[u8], work: &mut [u32], wanted: [u32; 5]) -> Answer {
+    Reading::of(sheet).find(sheet, work, wanted)
+}
+
+pub fn withdraw(sheet: &[u8], line: usize, work: &mut [u32], out: &mut [u8]) -> Answer {
+    Reading::of(sheet).withdraw(sheet, line, work, out)
+}
+
+fn refused(number: usize, place: usize) -> Answer {
+    Answer {
+        number,
+        values: [place, 0, 0],
+    }
+}
+
+fn done(value: usize) -> Answer {
+    Answer {
+        number: 0,
+        values: [value, 0, 0],
+    }
+}
+
+/// The calls on a sheet that is read already.
+impl Reading {
+    /// The counts of an accepted sheet; otherwise the refusal. Writes the work buffer.
+    fn accept(&self, work: &mut [u32]) -> Result<Counts, Answer> {
+        let fault = |refusal: Refusal| refused(refusal.number, refusal.place);
+        let Some(counts) = self.counts else {
+            return Err(self.refusal.map_or(refused(1, 0), fault));
+        };
+        if work.len() < counts.terms {
+            return Err(refused(4, 0));
+        }
+        work[..self.sizes.len()].copy_from_slice(&self.sizes);
+        match self.refusal {
+            Some(refusal) => Err(fault(refusal)),
+            None => Ok(counts),
+        }
+    }
+
+    pub fn admit(&self, work: &mut [u32]) -> Answer {
+        match self.accept(work) {
+            Err(answer) => answer,
+            Ok(counts) => Answer {
+                number: 0,
+                values: [counts.terms, counts.contexts, counts.lines],
+            },
+        }
+    }
+
+    pub fn find(&self, sheet: &[u8], work: &mut [u32], wanted: [u32; 5]) -> Answer {
+        let counts = match self.accept(work) {
+            Err(answer) => return answer,
+            Ok(counts) => counts,
+        };
+        let states = |line: &usize| {
+            let at = counts.line_at(*line);
+            [0, 2, 3, 4, 5].map(|place| u32::from(word(sheet, at + 2 * place))) == wanted
+        };
+        match (0..counts.lines).find(states) {
+            Some(line) => done(line),
+            None => refused(14, 0),
+        }
+    }
+
+    pub fn withdraw(&self, sheet: &[u8], line: usize, work: &mut [u32], out: &mut [u8]) -> Answer {
+        let counts = match self.accept(work) {
+            Err(answer) => return answer,
+            Ok(counts) => counts,
+        };
+        if line >= counts.lines {
+            return refused(11, line);
+        }
+        if let Some(user) = (line + 1..counts.lines).find(|&l| uses(sheet, counts, l, line)) {
+            return refused(12, user);
+        }
+        let new = without(sheet, counts, line);
+        if out.len() < new.len() {
+            return refused(13, 0);
+        }
+        out[..new.len()].copy_from_slice(&new);
+        done(new.len())
+    }
+}
+
+/// The bytes where a line's used premises stand.
+fn premise_places(sheet: &[u8], counts: Counts, line: usize) -> Vec<usize> {
+    let at = counts.line_at(line);
+    let rule = u32::from(word(sheet, at + 2));
+    (0..premise_count(rule)).map(|i| at + 12 + 2 * i).collect()
+}
+
+fn uses(sheet: &[u8], counts: Counts, line: usize, premise: usize) -> bool {
+    let places = premise_places(sheet, counts, line);
+    places
+        .iter()
+        .any(|&at| usize::from(word(sheet, at)) == premise)
+}
+
+/// The sheet without a line that no line uses.
+fn without(sheet: &[u8], counts: Counts, line: usize) -> Vec<u8> {
+    let mut new = sheet.to_vec();
+    for user in line + 1..counts.lines {
+        for at in premise_places(sheet, counts, user) {
+            let premise = word(sheet, at);
+            if usize::from(premise) > line {
+                set_word(&mut new, at, premise - 1);
+            }
+        }
+    }
+    let start = counts.line_at(line);
+    new.drain(start..start + LINE_ROW);
+    let fewer = Counts {
+        lines: counts.lines - 1,
+        ..counts
+    };
+    let trailer = new.len() - 16;
+    for (place, &value) in fewer.trailer().iter().enumerate() {
+        set_word(&mut new, trailer + 2 * place, value);
+    }
+    new
+}

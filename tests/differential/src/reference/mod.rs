@@ -1,0 +1,28 @@
+//! A second implementation of document 01, written from the papers: plain trees, real shift and substitution, and each rule by building what it concludes.
+
+mod calls;
+mod contexts;
+mod equality;
+pub mod judgments;
+pub mod layout;
+pub mod reading;
+pub mod rules;
+mod subtyping;
+pub mod terms;
+mod typing;
+
+pub use calls::{admit, find, withdraw};
+
+/// What a call answers: number 0 with its values, or the number of a refusal with its place as the first value.
+#[derive(Clone, Copy, Debug, PartialEq, Eq)]
+pub struct Answer {
+    pub number: usize,
+    pub values: [usize; 3],
+}
+
+/// The number and the place of a refusal.
+#[derive(Clone, Copy, Debug, PartialEq, Eq)]
+pub struct Refusal {
+    pub number: usize,
+    pub place: usize,
+}

@@ -1,0 +1,39 @@
+//! The 43 rules between plain judgments, numbered as printed.
+
+use super::judgments::Judgment;
+use super::terms::Terms;
+use super::{contexts, equality, subtyping, typing};
+
+/// The form that a rule concludes; none for a number that is no rule's.
+pub fn conclusion_form(rule: u32) -> Option<u32> {
+    match rule {
+        1..=2 => Some(0),
+        3..=16 => Some(1),
+        17..=34 => Some(2),
+        35..=43 => Some(3),
+        _ => None,
+    }
+}
+
+/// The number of premises that a rule cites.
+pub fn premise_count(rule: u32) -> usize {
+    match rule {
+        1 => 0,
+        15 | 28 => 4,
+        9 | 31 | 32 | 34 => 3,
+        2 | 4 | 6 | 8 | 16 | 19 | 20 | 22 | 23 | 24 | 29 | 30 | 33 | 35 | 38 | 39 | 41 | 43 => 2,
+        _ => 1,
+    }
+}
+
+/// Whether the conclusion follows from the premises by the rule.
+pub fn instance(terms: &mut Terms, rule: u32, p: &[Judgment], c: Judgment) -> bool {
+    let follows = match rule {
+        1..=2 => contexts::follows(terms, rule, p, c),
+        3..=16 => typing::follows(terms, rule, p, c),
+        17..=34 => equality::follows(terms, rule, p, c),
+        35..=43 => subtyping::follows(terms, rule, p, c),
+        _ => None,
+    };
+    follows == Some(true)
+}
