@@ -1,12 +1,13 @@
 /*
  * Mengyubad: admission of derivation sheets, finding and withdrawal of a line.
  *
- * Link libmengyubad.a (`rt staticlib mengyubad` writes it to target/staticlib; x86-64). Every function is proved to meet the
- * contract in crates/mengyubad/src/lib.rt; the comments here say the same in words. docs/FORMAT.md describes sheets.
+ * Link libmengyubad.a (`rt staticlib mengyubad` writes it to target/staticlib; x86-64). What each function answers and leaves in the
+ * buffers is proved: the contracts stand in crates/mengyubad/src/lib.rt, and the comments here say them in words. docs/FORMAT.md
+ * describes sheets.
  *
  * What C owes: no pointer is null, even where its length is 0; each points to as many elements as its length says; no two buffers
- * overlap. Nothing else is asked: any bytes, lengths and numbers may be handed over. The functions keep no pointer, allocate
- * nothing and may be called from several threads on buffers of their own.
+ * overlap; 1 MB of stack is free (terms are walked by recursion, at most 3,072 levels deep). Any bytes, lengths and numbers may be
+ * handed over. The functions have no state of their own, allocate nothing and keep no pointer.
  *
  * Every function returns 0, or the number of a refusal, and sets all three words of `values`:
  *   0       mengyubad_admit: T, C, L; mengyubad_find: the line, 0, 0; mengyubad_withdraw: the new length, 0, 0

@@ -10,43 +10,39 @@ type Outcome = (Answer, Vec<u32>, Vec<u8>);
 const WORK: u32 = 0xA5A5_A5A5;
 const OUT: u8 = 0x5A;
 
-pub fn proved(sheet: &[u8], call: Call, words: usize, room: usize) -> Outcome {
+/// What a call leaves in buffers of these lengths.
+fn outcome(
+    words: usize,
+    room: usize,
+    call: impl FnOnce(&mut [u32], &mut [u8]) -> Answer,
+) -> Outcome {
     let (mut work, mut out) = (vec![WORK; words], vec![OUT; room]);
-    let answer = match call {
-        Call::Admit => mengyubad::admit(sheet, &mut work),
-        Call::Find(wanted) => mengyubad::find(sheet, &mut work, wanted),
-        Call::Withdraw(n) => mengyubad::withdraw(sheet, n, &mut work, &mut out),
-    };
+    let answer = call(&mut work, &mut out);
     (answer, work, out)
 }
 
-pub fn tuned(
+/// What both sides leave; as text how they differ, if they do.
+pub fn alike(
     checker: &mut Checker,
     sheet: &[u8],
     call: Call,
     words: usize,
     room: usize,
-) -> Outcome {
-    let (mut work, mut out) = (vec![WORK; words], vec![OUT; room]);
-    let answer = match call {
-        Call::Admit => checker.admit(sheet, &mut work),
-        Call::Find(wanted) => checker.find(sheet, &mut work, wanted),
-        Call::Withdraw(n) => checker.withdraw(sheet, n, &mut work, &mut out),
-    };
-    (answer, work, out)
+) -> Result<Outcome, String> {
+    let one = outcome(words, room, |work, out| call.proved(sheet, work, out));
+    let other = outcome(words, room, |work, out| {
+        call.tuned(checker, sheet, work, out)
+    });
+    if one != other {
+        return Err(format!("proved {:?}, tuned {:?}", one.0, other.0));
+    }
+    Ok(one)
 }
 
 /// Panics unless both sides accept the input with equal answers and buffers.
 pub fn assert_agree(input: &Input, checker: &mut Checker) {
-    let (sheet, call) = (&input.sheet, input.call);
-    let one = proved(sheet, call, 3080, sheet.len());
-    let other = tuned(checker, sheet, call, 3080, sheet.len());
-    assert!(
-        one == other,
-        "{}: proved {:?}, tuned {:?}",
-        input.name,
-        one.0,
-        other.0
-    );
-    assert_eq!(one.0.number, 0, "{}: refused {:?}", input.name, one.0);
+    let (sheet, name) = (&input.sheet, &input.name);
+    let (answer, ..) = alike(checker, sheet, input.call, 3080, sheet.len())
+        .unwrap_or_else(|difference| panic!("{name}: {difference}"));
+    assert_eq!(answer.number, 0, "{name}: refused {answer:?}");
 }

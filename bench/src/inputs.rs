@@ -1,6 +1,8 @@
 //! What is measured: single inputs, and sweeps over one size.
 
 use crate::sheets;
+use crate::tuned::Checker;
+use mengyubad::Answer;
 
 /// What is asked of a sheet.
 #[derive(Clone, Copy)]
@@ -8,6 +10,32 @@ pub enum Call {
     Admit,
     Find([u32; 5]),
     Withdraw(usize),
+}
+
+impl Call {
+    /// Asks the proved library.
+    pub fn proved(self, sheet: &[u8], work: &mut [u32], out: &mut [u8]) -> Answer {
+        match self {
+            Call::Admit => mengyubad::admit(sheet, work),
+            Call::Find(wanted) => mengyubad::find(sheet, work, wanted),
+            Call::Withdraw(n) => mengyubad::withdraw(sheet, n, work, out),
+        }
+    }
+
+    /// Asks the tuned checker.
+    pub fn tuned(
+        self,
+        checker: &mut Checker,
+        sheet: &[u8],
+        work: &mut [u32],
+        out: &mut [u8],
+    ) -> Answer {
+        match self {
+            Call::Admit => checker.admit(sheet, work),
+            Call::Find(wanted) => checker.find(sheet, work, wanted),
+            Call::Withdraw(n) => checker.withdraw(sheet, n, work, out),
+        }
+    }
 }
 
 pub struct Input {
@@ -44,18 +72,17 @@ impl Input {
         [0, 2, 3, 4, 5].map(|j| u32::from(u16::from_le_bytes([line[2 * j], line[2 * j + 1]])))
     }
 
-    /// A search for the last line's judgment, and the withdrawal of the last line.
-    fn other_calls(&self) -> [Input; 2] {
+    /// The admission, a search for the last line's judgment, and the withdrawal of the last line.
+    fn all_calls(self) -> [Input; 3] {
         let [_, _, lines] = self.counts();
         let with = |word: &str, call| Input {
             name: self.name.replacen("admit", word, 1),
             sheet: self.sheet.clone(),
             call,
         };
-        [
-            with("find in", Call::Find(self.last_judgment())),
-            with("withdraw from", Call::Withdraw(lines - 1)),
-        ]
+        let find = with("find in", Call::Find(self.last_judgment()));
+        let withdraw = with("withdraw from", Call::Withdraw(lines - 1));
+        [self, find, withdraw]
     }
 }
 
@@ -69,11 +96,8 @@ pub fn single() -> Vec<Input> {
     let typical = admit("typical", sheets::typical());
     let full = admit("full", sheets::plausible(3072, 256, 1024));
     let mut all = vec![admit("S", sheets::sample())];
-    for input in [typical, full] {
-        let others = input.other_calls();
-        all.push(input);
-        all.extend(others);
-    }
+    all.extend(typical.all_calls());
+    all.extend(full.all_calls());
     all.push(admit("equal heads", sheets::equal_heads(3072, 256, 1024)));
     all.push(admit("deep context", sheets::deep_context(252)));
     all.push(admit("deep binders", sheets::deep_binders(100, 13)));
@@ -82,9 +106,7 @@ pub fn single() -> Vec<Input> {
         ("beta steps, open tree", sheets::beta_steps),
         ("induction steps, large motive", sheets::induction_steps),
     ];
-    for (name, build) in trees {
-        all.push(admit(name, build(LARGEST, 3072, 1024)));
-    }
+    all.extend(trees.map(|(name, build)| admit(name, build(LARGEST, 3072, 1024))));
     all
 }
 

@@ -3,13 +3,14 @@
 mod agree;
 mod inputs;
 mod measure;
+mod random;
 mod report;
 #[cfg(test)]
 mod samples;
 mod sheets;
 mod tuned;
 
-use inputs::Input;
+use inputs::{Input, Sweep};
 use measure::Bench;
 use report::Measured;
 
@@ -19,24 +20,32 @@ fn main() {
         std::process::exit(2);
     }
     let mut bench = Bench::new();
+    measure_single(&mut bench);
+    for sweep in inputs::sweeps() {
+        measure_sweep(&mut bench, &sweep);
+    }
+    println!("\n{} {}", report::note(), report::processor());
+}
+
+fn measure_single(bench: &mut Bench) {
     println!("{}", report::HEAD);
     for input in inputs::single() {
-        let measured = run(&mut bench, &input);
+        let measured = run(bench, &input);
         println!("{}", report::row(&input, &measured));
     }
-    for sweep in inputs::sweeps() {
-        println!("\n{}", report::sweep_head(&sweep));
-        let mut before: Option<Measured> = None;
-        let mut all = Vec::new();
-        for (size, input) in &sweep.inputs {
-            let measured = run(&mut bench, input);
-            println!("{}", report::sweep_row(*size, &measured, before.as_ref()));
-            all.push((*size as f64, measured));
-            before = Some(measured);
-        }
-        println!("\n{}", report::growth(&all));
+}
+
+fn measure_sweep(bench: &mut Bench, sweep: &Sweep) {
+    println!("\n{}", report::sweep_head(sweep));
+    let mut before: Option<Measured> = None;
+    let mut all = Vec::new();
+    for (size, input) in &sweep.inputs {
+        let measured = run(bench, input);
+        println!("{}", report::sweep_row(*size, &measured, before.as_ref()));
+        all.push((*size as f64, measured));
+        before = Some(measured);
     }
-    println!("\n{} {}", report::NOTE, report::processor());
+    println!("\n{}", report::growth(&all));
 }
 
 /// Measures both sides on an input, once their answers are equal.

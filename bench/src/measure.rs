@@ -1,6 +1,6 @@
 //! Times of the proved library and of the tuned checker on one input, taken in turn.
 
-use crate::inputs::{Call, Input};
+use crate::inputs::Input;
 use crate::report::Measured;
 use crate::tuned::Checker;
 use mengyubad::Answer;
@@ -8,11 +8,11 @@ use std::hint::black_box;
 use std::time::{Duration, Instant};
 
 /// The least time of a sample; a shorter call is repeated.
-const SAMPLE: Duration = Duration::from_millis(3);
+pub const SAMPLE: Duration = Duration::from_millis(3);
 /// How many samples are taken, and how many where one takes longer than `LONG`.
-const SAMPLES: usize = 45;
-const LONG_SAMPLES: usize = 15;
-const LONG: f64 = 0.05;
+pub const SAMPLES: usize = 45;
+pub const LONG_SAMPLES: usize = 15;
+pub const LONG: Duration = Duration::from_millis(50);
 
 /// Both sides and their buffers, which are allocated once and not cleared.
 pub struct Bench {
@@ -32,22 +32,13 @@ impl Bench {
 
     fn proved(&mut self, input: &Input) -> Answer {
         let sheet = black_box(&input.sheet[..]);
-        match input.call {
-            Call::Admit => mengyubad::admit(sheet, &mut self.work),
-            Call::Find(wanted) => mengyubad::find(sheet, &mut self.work, wanted),
-            Call::Withdraw(n) => mengyubad::withdraw(sheet, n, &mut self.work, &mut self.out),
-        }
+        input.call.proved(sheet, &mut self.work, &mut self.out)
     }
 
     fn tuned(&mut self, input: &Input) -> Answer {
         let sheet = black_box(&input.sheet[..]);
-        match input.call {
-            Call::Admit => self.checker.admit(sheet, &mut self.work),
-            Call::Find(wanted) => self.checker.find(sheet, &mut self.work, wanted),
-            Call::Withdraw(n) => self
-                .checker
-                .withdraw(sheet, n, &mut self.work, &mut self.out),
-        }
+        let (checker, work, out) = (&mut self.checker, &mut self.work, &mut self.out);
+        input.call.tuned(checker, sheet, work, out)
     }
 
     /// The medians of interleaved samples, after a warm-up that also settles how often a sample repeats the call.
@@ -58,7 +49,7 @@ impl Bench {
         let mut samples = SAMPLES;
         while proved.len() < samples {
             let seconds = timed(proved_calls, || self.proved(input));
-            if seconds > LONG {
+            if seconds > LONG.as_secs_f64() {
                 samples = LONG_SAMPLES;
             }
             proved.push(seconds);
@@ -74,25 +65,23 @@ impl Bench {
 /// How many calls fill a sample.
 fn calibrated(mut call: impl FnMut() -> Answer) -> u32 {
     let mut calls = 1;
-    loop {
-        let start = Instant::now();
-        for _ in 0..calls {
-            black_box(call());
-        }
-        if start.elapsed() >= SAMPLE {
-            return calls;
-        }
+    while sample(calls, &mut call) < SAMPLE {
         calls *= 2;
     }
+    calls
 }
 
 /// Seconds for one call, over a sample of some.
 fn timed(calls: u32, mut call: impl FnMut() -> Answer) -> f64 {
+    sample(calls, &mut call).as_secs_f64() / f64::from(calls)
+}
+
+fn sample(calls: u32, call: &mut impl FnMut() -> Answer) -> Duration {
     let start = Instant::now();
     for _ in 0..calls {
         black_box(call());
     }
-    start.elapsed().as_secs_f64() / f64::from(calls)
+    start.elapsed()
 }
 
 fn median(mut times: Vec<f64>) -> f64 {

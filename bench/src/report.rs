@@ -1,6 +1,7 @@
 //! The tables, as Markdown.
 
 use crate::inputs::{Input, Sweep};
+use crate::measure::{LONG, LONG_SAMPLES, SAMPLE, SAMPLES};
 
 /// Median seconds for one call.
 #[derive(Clone, Copy)]
@@ -13,23 +14,28 @@ pub const HEAD: &str = "\
 | input | bytes | T | C | L | proved | tuned | proved / tuned | proved MB/s | tuned MB/s |
 |---|---:|---:|---:|---:|---:|---:|---:|---:|---:|";
 
-pub const NOTE: &str = "\
-Medians of 45 samples (15 where a call takes over 50 ms), taken in turn after a warm-up; a sample repeats a call for at least 3 ms. One thread. The work and output \
-buffers of both sides, and the memory of the tuned checker, are allocated once and not cleared between runs. Before each \
-measurement both sides answered alike, buffers included. MB is 10^6 bytes of the sheet.";
+/// How the figures were taken.
+pub fn note() -> String {
+    let (long, least) = (LONG.as_millis(), SAMPLE.as_millis());
+    format!(
+        "Medians of {SAMPLES} samples ({LONG_SAMPLES} where a call takes over {long} ms), taken in turn after a warm-up; a sample repeats a call for at least {least} ms. \
+         One thread. The work and output buffers of both sides, and the memory of the tuned checker, are allocated once and not cleared between runs. Before each \
+         measurement both sides answered alike, buffers included. MB is 10^6 bytes of the sheet."
+    )
+}
 
 pub fn row(input: &Input, m: &Measured) -> String {
     let bytes = input.sheet.len();
     let [t, c, l] = input.counts();
     let rate = |seconds: f64| bytes as f64 / seconds / 1e6;
     format!(
-        "| {} | {bytes} | {t} | {c} | {l} | {} | {} | {:.2} | {:.3} | {:.1} |",
+        "| {} | {bytes} | {t} | {c} | {l} | {} | {} | {} | {} | {} |",
         input.name,
         time(m.proved),
         time(m.tuned),
-        m.proved / m.tuned,
-        rate(m.proved),
-        rate(m.tuned),
+        three_digits(m.proved / m.tuned),
+        three_digits(rate(m.proved)),
+        three_digits(rate(m.tuned)),
     )
 }
 
@@ -43,14 +49,14 @@ pub fn sweep_head(sweep: &Sweep) -> String {
 
 pub fn sweep_row(size: usize, m: &Measured, before: Option<&Measured>) -> String {
     let to_before = |now: f64, of: fn(&Measured) -> f64| match before {
-        Some(earlier) => format!("{:.2}", now / of(earlier)),
+        Some(earlier) => three_digits(now / of(earlier)),
         None => String::from("-"),
     };
     format!(
-        "| {size} | {} | {} | {:.2} | {} | {} |",
+        "| {size} | {} | {} | {} | {} | {} |",
         time(m.proved),
         time(m.tuned),
-        m.proved / m.tuned,
+        three_digits(m.proved / m.tuned),
         to_before(m.proved, |m| m.proved),
         to_before(m.tuned, |m| m.tuned),
     )
@@ -80,16 +86,51 @@ pub fn processor() -> String {
     format!("Processor: {}.", name.unwrap_or("not named"))
 }
 
+const UNITS: [(f64, &str); 4] = [(1.0, "s"), (1e-3, "ms"), (1e-6, "µs"), (1e-9, "ns")];
+
+/// Three significant digits in the greatest unit of which they show at least one.
 fn time(seconds: f64) -> String {
-    if seconds >= 0.1 {
-        format!("{seconds:.2} s")
-    } else if seconds >= 1e-4 {
-        format!("{:.2} ms", seconds * 1e3)
-    } else if seconds >= 1e-6 {
-        format!("{:.2} µs", seconds * 1e6)
-    } else if seconds >= 1e-8 {
-        format!("{:.0} ns", seconds * 1e9)
-    } else {
-        format!("{:.1} ns", seconds * 1e9)
+    let fits = |&&(unit, _): &&(f64, &str)| seconds / unit >= 0.9995;
+    let (unit, name) = UNITS.iter().find(fits).unwrap_or(&UNITS[3]);
+    format!("{} {name}", three_digits(seconds / unit))
+}
+
+/// The number with three significant digits.
+fn three_digits(number: f64) -> String {
+    let rounded = format!("{number:.2e}");
+    let power = rounded.split('e').nth(1).and_then(|e| e.parse().ok());
+    let places = usize::try_from(2 - power.unwrap_or(0)).unwrap_or(0);
+    format!("{:.places$}", rounded.parse().unwrap_or(number))
+}
+
+#[cfg(test)]
+mod tests {
+    use super::{three_digits, time};
+
+    #[test]
+    fn numbers_have_three_digits() {
+        let numbers = [0.0, 0.012_345, 0.999_6, 1.0, 9.995_1, 12.34, 999.4, 1234.5];
+        let wanted = [
+            "0.00", "0.0123", "1.00", "1.00", "10.0", "12.3", "999", "1230",
+        ];
+        assert_eq!(numbers.map(three_digits), wanted);
+    }
+
+    #[test]
+    fn times_have_a_fitting_unit() {
+        let seconds = [
+            0.0, 3.4e-11, 12e-9, 999.4e-9, 999.6e-9, 45.67e-6, 0.5, 99.96,
+        ];
+        let wanted = [
+            "0.00 ns",
+            "0.0340 ns",
+            "12.0 ns",
+            "999 ns",
+            "1.00 µs",
+            "45.7 µs",
+            "500 ms",
+            "100 s",
+        ];
+        assert_eq!(seconds.map(time), wanted);
     }
 }

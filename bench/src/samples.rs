@@ -1,7 +1,8 @@
 //! Tests: the sample sheets with their known answers, and damaged sheets, on both sides.
 
-use crate::agree::{proved, tuned};
+use crate::agree;
 use crate::inputs::Call;
+use crate::random::Random;
 use crate::sheets;
 use crate::tuned::Checker;
 use mengyubad::Answer;
@@ -36,13 +37,17 @@ fn printed(answer: Answer, values: usize) -> String {
     format!("{word} {}", numbers.join(" "))
 }
 
-/// Both sides leave the same behind.
-fn alike(checker: &mut Checker, sheet: &[u8], call: Call, words: usize, room: usize) -> Answer {
-    let one = proved(sheet, call, words, room);
-    let other = tuned(checker, sheet, call, words, room);
-    assert_eq!(one.0, other.0);
-    assert!(one == other, "the buffers differ after {:?}", one.0);
-    one.0
+/// The answer and the output, once both sides leave the same behind.
+fn alike(
+    checker: &mut Checker,
+    sheet: &[u8],
+    call: Call,
+    words: usize,
+    room: usize,
+) -> (Answer, Vec<u8>) {
+    let (answer, _, out) =
+        agree::alike(checker, sheet, call, words, room).expect("equal answers and buffers");
+    (answer, out)
 }
 
 /// The numbers of terms and lines that a trailer states, if there is one.
@@ -86,11 +91,10 @@ fn samples_are_answered_as_listed() {
             .skip(1)
             .map(|w| w.parse().expect("a number"));
         let (call, values) = asked(&numbers.collect::<Vec<usize>>());
-        let answer = alike(&mut checker, &sheet, call, 3072, sheet.len());
+        let (answer, out) = alike(&mut checker, &sheet, call, 3072, sheet.len());
         assert_eq!(printed(answer, values), words[at..].join(" "), "{line}");
         if let (Call::Withdraw(_), 0) = (call, answer.number) {
-            written = tuned(&mut checker, &sheet, call, 3072, sheet.len()).2;
-            written.truncate(answer.values[0]);
+            written = out[..answer.values[0]].to_vec();
         }
     }
 }
@@ -99,30 +103,34 @@ fn samples_are_answered_as_listed() {
 fn every_line_of_the_samples_is_found_and_withdrawn_alike() {
     let mut checker = Checker::new();
     for sheet in samples() {
-        let (terms, lines) = stated(&sheet);
-        let length = sheet.len();
-        let mut alike = |call, words, room| alike(&mut checker, &sheet, call, words, room);
-        alike(Call::Admit, terms, 0);
-        alike(Call::Admit, terms.saturating_sub(1), 0);
-        for n in 0..lines + 2 {
-            alike(Call::Find([1, 0, n as u32, 0, 1]), terms, 0);
-            alike(Call::Withdraw(n), terms, length);
-            alike(Call::Withdraw(n), terms + 1, length.saturating_sub(20));
-            alike(Call::Withdraw(n), terms, length.saturating_sub(21));
-        }
+        lines_are_alike(&mut checker, &sheet);
+    }
+}
+
+fn lines_are_alike(checker: &mut Checker, sheet: &[u8]) {
+    let (terms, lines) = stated(sheet);
+    let length = sheet.len();
+    let mut alike = |call, words, room| alike(checker, sheet, call, words, room);
+    alike(Call::Admit, terms, 0);
+    alike(Call::Admit, terms.saturating_sub(1), 0);
+    for n in 0..lines + 2 {
+        alike(Call::Find([1, 0, n as u32, 0, 1]), terms, 0);
+        alike(Call::Withdraw(n), terms, length);
+        alike(Call::Withdraw(n), terms + 1, length.saturating_sub(20));
+        alike(Call::Withdraw(n), terms, length.saturating_sub(21));
     }
 }
 
 /// Changes one word of a sheet: by one, to a small number, or to that of another place.
-fn damaged(sheet: &[u8], next: &mut impl FnMut(usize) -> usize) -> Vec<u8> {
+fn damaged(sheet: &[u8], random: &mut Random) -> Vec<u8> {
     let mut sheet = sheet.to_vec();
-    let at = 2 * next(sheet.len() / 2);
+    let at = 2 * random.below(sheet.len() / 2);
     let word = u16::from_le_bytes([sheet[at], sheet[at + 1]]);
-    let other = 2 * next(sheet.len() / 2);
-    let new = match next(4) {
+    let other = 2 * random.below(sheet.len() / 2);
+    let new = match random.below(4) {
         0 => word.wrapping_add(1),
         1 => word.wrapping_sub(1),
-        2 => next(16) as u16,
+        2 => random.below(16) as u16,
         _ => u16::from_le_bytes([sheet[other], sheet[other + 1]]),
     };
     sheet[at..at + 2].copy_from_slice(&new.to_le_bytes());
@@ -131,13 +139,7 @@ fn damaged(sheet: &[u8], next: &mut impl FnMut(usize) -> usize) -> Vec<u8> {
 
 #[test]
 fn damaged_sheets_are_answered_alike() {
-    let mut state = 0x9E37_79B9_7F4A_7C15_u64;
-    let mut next = |below: usize| {
-        state ^= state << 13;
-        state ^= state >> 7;
-        state ^= state << 17;
-        ((state >> 20) % below as u64) as usize
-    };
+    let mut random = Random::new(0x9E37_79B9_7F4A_7C15);
     let mut all = samples();
     all.retain(|sheet| sheet.len() >= 50);
     all.push(sheets::typical());
@@ -147,9 +149,9 @@ fn damaged_sheets_are_answered_alike() {
     let mut checker = Checker::new();
     let mut answered = [0; 15];
     for round in 0..40_000 {
-        let sheet = damaged(&all[round % all.len()], &mut next);
-        let call = Call::Withdraw(next(30));
-        let answer = alike(&mut checker, &sheet, call, 3072, sheet.len());
+        let sheet = damaged(&all[round % all.len()], &mut random);
+        let call = Call::Withdraw(random.below(30));
+        let (answer, _) = alike(&mut checker, &sheet, call, 3072, sheet.len());
         answered[answer.number] += 1;
     }
     let expected = [0, 2, 3, 5, 6, 8, 9, 10, 11, 12];

@@ -24,6 +24,14 @@ static void expect_same(const char *what, const void *got, const void *wanted, s
     failures++;
 }
 
+static void expect_length(const char *what, size_t got, size_t wanted)
+{
+    if (got == wanted)
+        return;
+    fprintf(stderr, "%s: %zu bytes, not %zu\n", what, got, wanted);
+    failures++;
+}
+
 static void put_word(uint8_t **at, unsigned word)
 {
     *(*at)++ = (uint8_t)(word % 256);
@@ -86,8 +94,7 @@ static void withdraws(const uint8_t *s)
     expect("no room", mengyubad_withdraw(s, S_BYTES, 4, work, WORDS, out, 149, values), values, MENGYUBAD_OUT_SHORT, 0, 0, 0);
     expect_same("output after refusals", out, untouched, sizeof out);
     expect("line 4", mengyubad_withdraw(s, S_BYTES, 4, work, WORDS, out, S_BYTES, values), values, MENGYUBAD_OK, M9_BYTES, 0, 0);
-    if (sample(m9, 4) != M9_BYTES)
-        failures++;
+    expect_length("M9", sample(m9, 4), M9_BYTES);
     expect_same("S without line 4", out, m9, M9_BYTES);
     expect_same("output beyond", out + M9_BYTES, untouched, S_BYTES - M9_BYTES);
     expect("the new sheet", mengyubad_admit(out, M9_BYTES, work, WORDS, values), values, MENGYUBAD_OK, 5, 1, 4);
@@ -96,8 +103,7 @@ static void withdraws(const uint8_t *s)
 int main(void)
 {
     uint8_t s[S_BYTES];
-    if (sample(s, 5) != S_BYTES)
-        return 1;
+    expect_length("S", sample(s, 5), S_BYTES);
     admits(s);
     finds(s);
     withdraws(s);

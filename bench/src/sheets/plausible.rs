@@ -2,7 +2,8 @@
 //! polymorphic identity, each in contexts of some length.
 
 use super::builder::{children, Builder};
-use super::shared::{families, numeral, Sums};
+use super::shared::{numeral, with_family, with_number, Sums};
+use crate::random::Random;
 
 /// Lines about addition in one context.
 struct Addition {
@@ -17,10 +18,8 @@ impl Addition {
     /// plus is lambda m n. ind(Nat, m, n, succ y).
     fn new(b: &mut Builder, wf: u16) -> Addition {
         let sums = Sums::new(b, wf);
-        let nat = b.wt_nat(wf, 0);
-        let under_m = b.wf_cons(wf, nat);
-        let nat = b.wt_nat(under_m, 0);
-        let under_n = b.wf_cons(under_m, nat);
+        let under_m = with_number(b, wf);
+        let under_n = with_number(b, under_m);
         let inner = Sums::new(b, under_n);
         let m = b.wt_var(under_n, 1);
         let n = b.wt_var(under_n, 0);
@@ -46,8 +45,7 @@ impl Addition {
         let first = b.e_appabs(m, self.inside);
         let refl = b.e_refl(n);
         let applied = b.e_app(first, refl);
-        let nat = b.wt_nat(self.wf, 0);
-        let under = b.wf_cons(self.wf, nat);
+        let under = with_number(b, self.wf);
         let sums = Sums::new(b, under);
         let known = b.term(m);
         let mut raised = b.wt_zero(under);
@@ -160,8 +158,7 @@ fn derived(lines: usize) -> Builder {
     let mut wf = b.wf_nil();
     let mut round = 0;
     while b.lines_used() < lines {
-        let kind = families(&mut b, wf);
-        wf = b.wf_cons(wf, kind);
+        wf = with_family(&mut b, wf);
         let (m, n) = (3 + round % 4, 2 + (5 * round) % 17);
         pairs(&mut b, wf, m, n);
         identity(&mut b, wf, n);
@@ -190,23 +187,23 @@ pub fn plausible(terms: usize, contexts: usize, lines: usize) -> Vec<u8> {
 
 /// Adds terms over the rows that are there, taken at random.
 fn fill_terms(b: &mut Builder, terms: usize) {
-    let mut state = 0x2545_F491_4F6C_DD1D_u64;
+    let mut random = Random::new(0x2545_F491_4F6C_DD1D);
     while b.terms_used() < terms {
-        let mut next = |below: usize| {
-            state ^= state << 13;
-            state ^= state >> 7;
-            state ^= state << 17;
-            ((state >> 16) % below as u64) as u16
-        };
-        let tag = 3 + next(11);
-        let mut words = [tag, 0, 0, 0, 0];
-        let mut size = 0;
-        for (j, _) in children(tag) {
-            words[1 + j] = next(b.terms_used());
-            size += b.size(words[1 + j]);
-        }
+        let (words, size) = some_row(b, &mut random);
         if size < 2000 {
             b.row(words);
         }
     }
+}
+
+/// A row over the rows that are there, and the nodes of its children.
+fn some_row(b: &Builder, random: &mut Random) -> ([u16; 5], usize) {
+    let tag = 3 + random.below(11) as u16;
+    let mut words = [tag, 0, 0, 0, 0];
+    let mut size = 0;
+    for (j, _) in children(tag) {
+        words[1 + j] = random.below(b.terms_used()) as u16;
+        size += b.size(words[1 + j]);
+    }
+    (words, size)
 }

@@ -12,8 +12,7 @@ pub struct Sums {
 impl Sums {
     /// Makes ready for sums in the context of `wf`.
     pub fn new(b: &mut Builder, wf: u16) -> Sums {
-        let nat = b.wt_nat(wf, 0);
-        let inner = b.wf_cons(wf, nat);
+        let inner = with_number(b, wf);
         let motive = b.wt_nat(inner, 0);
         let innermost = b.wf_cons(inner, motive);
         let y = b.wt_var(innermost, 0);
@@ -43,11 +42,30 @@ pub fn numeral(b: &mut Builder, wf: u16, n: usize) -> u16 {
 }
 
 /// Pi(Nat, U_0) : U_1, the type of families over Nat.
-pub fn families(b: &mut Builder, wf: u16) -> u16 {
+fn families(b: &mut Builder, wf: u16) -> u16 {
     let nat = b.wt_nat(wf, 1);
     let inner = b.wf_cons(wf, nat);
     let univ = b.wt_univ(inner, 0);
     b.wt_pi(nat, univ)
+}
+
+/// The context of `wf` with a family F : Pi(Nat, U_0).
+pub fn with_family(b: &mut Builder, wf: u16) -> u16 {
+    let kind = families(b, wf);
+    b.wf_cons(wf, kind)
+}
+
+/// The context of `wf` with a number.
+pub fn with_number(b: &mut Builder, wf: u16) -> u16 {
+    let nat = b.wt_nat(wf, 0);
+    b.wf_cons(wf, nat)
+}
+
+/// The context of a family and a number.
+pub fn family_and_number(b: &mut Builder) -> u16 {
+    let nil = b.wf_nil();
+    let family = with_family(b, nil);
+    with_number(b, family)
 }
 
 /// Pi(Nat, F x) : U_0, where F is entry `f` of the context of `wf`.

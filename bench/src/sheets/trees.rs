@@ -1,7 +1,7 @@
 //! Sheets with few rows that spell large trees, on whose lines a checker that walks trees visits nearly 65,535 nodes again and again.
 
 use super::builder::Builder;
-use super::shared::{families, numbers, section, Sums};
+use super::shared::{family_and_number, numbers, section, with_number, Sums};
 
 /// A number of about 7.9 * 2^doublings nodes over succ (succ x), spelt by some twenty rows.
 fn large(sums: Sums, b: &mut Builder, x: u16, doublings: u32) -> u16 {
@@ -42,8 +42,7 @@ pub fn applications(doublings: u32, terms: usize, lines: usize) -> Vec<u8> {
     let inner = b.wf_cons(nil, nat);
     let nat_in = b.wt_nat(inner, 0);
     let innermost = b.wf_cons(inner, nat_in);
-    let nat_inmost = b.wt_nat(innermost, 0);
-    let deepest = b.wf_cons(innermost, nat_inmost);
+    let deepest = with_number(&mut b, innermost);
     let constant = b.wt_nat(deepest, 0);
     let family = b.wt_abs(constant);
     let sums = Sums::new(&mut b, innermost);
@@ -66,15 +65,10 @@ pub fn applications(doublings: u32, terms: usize, lines: usize) -> Vec<u8> {
 /// walks for each line.
 pub fn beta_steps(doublings: u32, terms: usize, lines: usize) -> Vec<u8> {
     let mut b = Builder::default();
-    let nil = b.wf_nil();
-    let kind = families(&mut b, nil);
-    let with_family = b.wf_cons(nil, kind);
-    let nat = b.wt_nat(with_family, 0);
-    let base = b.wf_cons(with_family, nat);
+    let base = family_and_number(&mut b);
     let section = sections(&mut b, base);
     let wf = b.wf_cons(base, section);
-    let nat = b.wt_nat(wf, 0);
-    let inner = b.wf_cons(wf, nat);
+    let inner = with_number(&mut b, wf);
     let sums = Sums::new(&mut b, inner);
     let n = b.wt_var(inner, 2);
     let large = large(sums, &mut b, n, doublings);
@@ -117,18 +111,13 @@ fn large_type(b: &mut Builder, wf: u16, f: u16, n: u16, doublings: u32) -> u16 {
 /// E-INDSUC at a large motive: lines ind(P, succ a_i, b_j, y) = ind(P, a_i, b_j, y). Four walks for each line.
 pub fn induction_steps(doublings: u32, terms: usize, lines: usize) -> Vec<u8> {
     let mut b = Builder::default();
-    let nil = b.wf_nil();
-    let kind = families(&mut b, nil);
-    let with_family = b.wf_cons(nil, kind);
-    let nat = b.wt_nat(with_family, 0);
-    let base = b.wf_cons(with_family, nat);
+    let base = family_and_number(&mut b);
     let nat = b.wt_nat(base, 0);
     let inner = b.wf_cons(base, nat);
     let codomain = large_type(&mut b, inner, 2, 1, doublings);
     let kind = b.wt_pi(nat, codomain);
     let wf = b.wf_cons(base, kind);
-    let nat = b.wt_nat(wf, 0);
-    let inner = b.wf_cons(wf, nat);
+    let inner = with_number(&mut b, wf);
     let motive = large_type(&mut b, inner, 3, 2, doublings);
     let innermost = b.wf_cons(inner, motive);
     let y = b.wt_var(innermost, 0);

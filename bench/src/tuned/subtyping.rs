@@ -15,9 +15,9 @@ impl Tables {
             38 => self.l_pi(c, p, q),
             39 => self.l_sig(c, p, q),
             40 => self.l_proj1(PI, c.s2, c.s1, p),
-            41 => self.l_piproj2(c, p, q),
+            41 => self.l_proj2(PI, c, p, q),
             42 => self.l_proj1(SIGMA, c.s1, c.s2, p),
-            _ => self.l_sigproj2(c, p, q),
+            _ => self.l_proj2(SIGMA, c, p, q),
         }
     }
 
@@ -44,20 +44,13 @@ impl Tables {
         a.tag == tag && b.tag == tag && a.operand(0) == first && b.operand(0) == second
     }
 
-    fn l_piproj2(&mut self, c: &Line, p: &Line, q: &Line) -> bool {
+    /// L-PIPROJ2 and L-SIGPROJ2: the premises' terms are equal at the lesser domain.
+    fn l_proj2(&mut self, tag: u16, c: &Line, p: &Line, q: &Line) -> bool {
         let (a, b) = (self.rows.get(p.s1), self.rows.get(p.s2));
-        a.tag == PI
-            && b.tag == PI
-            && b.operand(0) == q.s3
-            && self.image(Put::Row(q.s1), a.operand(1), c.s1)
-            && self.image(Put::Row(q.s2), b.operand(1), c.s2)
-    }
-
-    fn l_sigproj2(&mut self, c: &Line, p: &Line, q: &Line) -> bool {
-        let (a, b) = (self.rows.get(p.s1), self.rows.get(p.s2));
-        a.tag == SIGMA
-            && b.tag == SIGMA
-            && a.operand(0) == q.s3
+        let lesser = if tag == PI { b } else { a };
+        a.tag == tag
+            && b.tag == tag
+            && lesser.operand(0) == q.s3
             && self.image(Put::Row(q.s1), a.operand(1), c.s1)
             && self.image(Put::Row(q.s2), b.operand(1), c.s2)
     }

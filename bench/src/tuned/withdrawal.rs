@@ -40,16 +40,27 @@ fn write(sheet: &[u8], counts: Counts, line: usize, out: &mut [u8]) {
     out[..at].copy_from_slice(&sheet[..at]);
     out[at..].copy_from_slice(&sheet[at + 20..]);
     let end = counts.trailer_at() - 20;
-    for later in out[at..end].chunks_exact_mut(20) {
-        for premise in later[12..].chunks_exact_mut(2) {
-            let number = u16::from_le_bytes([premise[0], premise[1]]);
-            let lowered = number - u16::from(usize::from(number) > line);
-            premise.copy_from_slice(&lowered.to_le_bytes());
-        }
+    lower_premises(&mut out[at..end], line);
+    lower_trailer(&mut out[end..]);
+}
+
+/// One less for each premise above `line`.
+fn lower_premises(lines: &mut [u8], line: usize) {
+    let later = lines.chunks_exact_mut(20);
+    for premise in later.flat_map(|words| words[12..].chunks_exact_mut(2)) {
+        lower(premise, |number| u16::from(usize::from(number) > line));
     }
+}
+
+/// One line less, and the three distances less by its length.
+fn lower_trailer(trailer: &mut [u8]) {
     for (j, by) in [(2, 1), (4, 20), (5, 20), (6, 20)] {
-        let word = &mut out[end + 2 * j..end + 2 * j + 2];
-        let less = u16::from_le_bytes([word[0], word[1]]) - by;
-        word.copy_from_slice(&less.to_le_bytes());
+        lower(&mut trailer[2 * j..2 * j + 2], |_| by);
     }
+}
+
+#[inline(always)]
+fn lower(word: &mut [u8], by: impl Fn(u16) -> u16) {
+    let old = u16::from_le_bytes([word[0], word[1]]);
+    word.copy_from_slice(&(old - by(old)).to_le_bytes());
 }

@@ -1,4 +1,5 @@
 //! The proved checker, as safe functions. Nothing checks these declarations against the Rattle source: they follow include/mengyubad.h.
+//! A call takes up to 1 MB of stack, so a thread that calls should have more.
 
 mod c {
     extern "C" {

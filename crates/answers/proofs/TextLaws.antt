@@ -1,7 +1,6 @@
 -- Texts put into a buffer piece by piece, and the digits of a number.
 -- Assumes nothing.
 use mathlib.Core.Path.{_≡_, refl, sym, _∙_, ap, subst}
-use mathlib.Core.Logic.{⊎-elim}
 use mathlib.Core.Bool.{Bool, true, false, cond}
 use mathlib.Core.List.{List, [], _∷_, _++_, append-assoc, append-nil}
 use Prim.Native.Nat.{ℕ, zero, suc, _+_, _-_, _*_, _/_, _^_, _≤_, _<_}
@@ -9,18 +8,19 @@ use native.Mathlib.Numerals.{add-one}
 use native.Mathlib.Nat.{pow-suc, pow-le-pow-right, le-div-iff-mul-le, div-lt-iff-lt-mul}
 use native.Mathlib.Omega.{arith}
 use lib.Dec.{ltb}
-use lib.ListN.{length, getD, take, set, length-set, length-append}
-use lib.Seq.{take-suc, take-suc-set, take-all, length-take-le}
+use lib.ListN.{length, getD, take, drop, set, length-set, length-append, take-append-drop}
+use lib.Seq.{take-suc, take-suc-set, take-all, drop-drop, drop-set-lt, length-take-le}
 use borrow.Author.Tests.{ltb-true, ltb-false}
 use Rattle.io.specs.Counts.{Counts}
 use Rattle.io.specs.Digits.{digits, Fewest}
-use Rattle.answers.specs.Text.{places, decimal, field, Put}
+use Rattle.answers.specs.Text.{places, decimal, field, Put, AtStart}
 
 -- the first i of the bytes are put
 pub record PutSoFar (before : List ℕ) (at : ℕ) (bytes after : List ℕ) (i : ℕ) : Type 0 where
   pub within : i ≤ length bytes
   pub whole : length after ≡ length before
   pub text : take (at + i) after ≡ take at before ++ take i bytes
+  pub rest : drop (at + i) after ≡ drop (at + i) before
 
 module _ (before : List ℕ) (at : ℕ) (bytes : List ℕ) where
   pub put-start : PutSoFar before at bytes before 0
@@ -28,6 +28,7 @@ module _ (before : List ℕ) (at : ℕ) (bytes : List ℕ) where
     within = omega arith;
     whole = refl;
     text = ap (λ n. take n before) none ∙ sym (append-nil (take at before));
+    rest = refl;
   }
     where
       none : at + 0 ≡ at
@@ -43,10 +44,18 @@ module _ (before : List ℕ) (at : ℕ) (bytes : List ℕ) where
           ∙ ap (λ l. l ++ (getD bytes i 0 ∷ [])) (so-far .text)
           ∙ append-assoc (take at before) (take i bytes) (getD bytes i 0 ∷ [])
           ∙ ap (λ l. take at before ++ l) (sym (take-suc bytes i 0 inside) ∙ ap (λ n. take n bytes) (sym (add-one i)));
+      rest = drop-set-lt (at + (i + 1)) after (at + i) (getD bytes i 0) (omega arith)
+          ∙ beyond after ∙ ap (drop 1) (so-far .rest) ∙ sym (beyond before);
     }
       where
         next : at + (i + 1) ≡ suc (at + i)
         next = omega arith
+
+        further : at + (i + 1) ≡ at + i + 1
+        further = omega arith
+
+        beyond : (l : List ℕ) → drop (at + (i + 1)) l ≡ drop 1 (drop (at + i) l)
+        beyond l = ap (λ n. drop n l) further ∙ sym (drop-drop 1 (at + i) l)
 
     pub put-done : length bytes ≤ i → at + length bytes ≤ length before → Put before at bytes after (at + i)
     put-done all room = record {
@@ -54,6 +63,7 @@ module _ (before : List ℕ) (at : ℕ) (bytes : List ℕ) where
       place = omega (arith, so-far .within);
       room = omega (arith, so-far .within, so-far .whole);
       text = so-far .text ∙ ap (λ l. take at before ++ l) (take-all i bytes all);
+      rest = so-far .rest;
     }
 
 module _ {a b c : List ℕ} {x y : List ℕ} {at e f : ℕ} where
@@ -64,11 +74,28 @@ module _ {a b c : List ℕ} {x y : List ℕ} {at e f : ℕ} where
     place = omega (arith, p .place, q .place, length-append x y);
     room = q .room;
     text = q .text ∙ ap (λ l. l ++ y) (p .text) ∙ append-assoc (take at a) x y;
+    rest = q .rest ∙ beyond b ∙ ap (drop (length y)) (p .rest) ∙ sym (beyond a);
   }
+    where
+      beyond : (l : List ℕ) → drop f l ≡ drop (length y) (drop e l)
+      beyond l = ap (λ n. drop n l) (q .place) ∙ sym (drop-drop (length y) e l)
 
--- a text put at the start is all there is
-pub whole-line : {a x b : List ℕ} {e : ℕ} → Put a 0 x b e → Counts e b × (take e b ≡ x)
-whole-line {b = b} {e = e} p = ((p .room, sym (length-take-le e b (p .room))), p .text)
+-- a text put at the start is all that changes
+pub whole-line : {a x b : List ℕ} {e : ℕ} → Put a 0 x b e → Counts e b × AtStart x a b e
+whole-line {a} {x} {b} {e} p = (
+  (p .room, sym (length-take-le e b (p .room))),
+  record {
+    long = long;
+    whole = sym (take-append-drop e b) ∙ ap (λ l. l ++ drop e b) (p .text) ∙ ap (λ l. x ++ l) (p .rest ∙ ap (λ n. drop n a) long);
+  },
+)
+  where
+    long : e ≡ length x
+    long = omega (arith, p .place)
+
+-- what is the answer's text
+pub same-text : {a x y b : List ℕ} {e : ℕ} → x ≡ y → AtStart x a b e → AtStart y a b e
+same-text {a = a} {b = b} {e = e} same = subst (λ t. AtStart t a b e) same
 
 -- the fewest digits that hold a number are as many as it has
 less-one : (n : ℕ) → suc n - 1 ≡ n

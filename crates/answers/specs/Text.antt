@@ -5,7 +5,7 @@ use mathlib.Core.Bool.{cond}
 use mathlib.Core.List.{List, [], _∷_, _++_}
 use Prim.Native.Nat.{ℕ, zero, suc, _+_, _/_, _≤_}
 use lib.Dec.{ltb}
-use lib.ListN.{length, take}
+use lib.ListN.{length, take, drop}
 use Rattle.io.specs.Digits.{digits}
 use Rattle.sheets.specs.declared.admission.Admission.{Admission}
 use Rattle.sheets.specs.declared.admission.Admission.the-variants.{Accepted, Refused}
@@ -55,12 +55,18 @@ foundText (Line line) = okText line
 foundText (notFound number place) = refusedText number place
 
 unfoldable pub withdrawalText : Withdrawal → List ℕ
-withdrawalText (Written length) = okText length
+withdrawalText (Written new) = okText new
 withdrawalText (notWritten number place) = refusedText number place
 
--- bytes stand behind the first at bytes of a buffer, whose length is kept, and end at the given place
+-- bytes stand behind the first at bytes of a buffer, whose length is kept, and end at the given place; the bytes beyond are as they were
 pub record Put (before : List ℕ) (at : ℕ) (bytes after : List ℕ) (stop : ℕ) : Type 0 where
   pub whole : length after ≡ length before
   pub place : stop ≡ at + length bytes
   pub room : stop ≤ length after
   pub text : take stop after ≡ take at before ++ bytes
+  pub rest : drop stop after ≡ drop stop before
+
+-- a text of so many bytes stands at the start of a buffer, and the bytes behind it are as they were
+pub record AtStart (text before after : List ℕ) (count : ℕ) : Type 0 where
+  pub long : count ≡ length text
+  pub whole : after ≡ text ++ drop (length text) before

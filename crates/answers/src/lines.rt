@@ -4,9 +4,9 @@ use sheets::finding::Found;
 use sheets::withdrawal::Withdrawal;
 ghost use mathlib.Core.Path.{_≡_};
 ghost use Prim.Native.Nat.{_+_, _≤_};
-ghost use lib.ListN.{length, take};
+ghost use lib.ListN.{length};
 ghost use Rattle.io.specs.Counts.{Counts};
-ghost use Rattle.answers.specs.Text.{field, okText, refusedText, admissionText, foundText, withdrawalText, Put};
+ghost use Rattle.answers.specs.Text.{field, okText, refusedText, admissionText, foundText, withdrawalText, Put, AtStart};
 
 // Puts bytes behind the first `at` bytes of `out`, and answers where they end.
 fn put(out: &mut [u8], at: usize, bytes: &[u8]) -> usize
@@ -35,7 +35,7 @@ fn put_number(out: &mut [u8], at: usize, number: usize) -> usize
 // Puts the word, the two numbers and a line end, and answers how many bytes that is.
 fn put_refusal(number: usize, place: usize, out: &mut [u8; 80]) -> usize
     ensures { λ r. ⌜ Counts r (now (out .exit)) ⌝ }
-    ensures { λ r. ⌜ take r (now (out .exit)) ≡ refusedText number place ⌝ }
+    ensures { λ r. ⌜ AtStart (refusedText number place) (now (out .entry)) (now (out .exit)) r ⌝ }
 {
     let word = put(out, 0, b"refused");
     let first = put_number(out, word, number);
@@ -46,7 +46,7 @@ fn put_refusal(number: usize, place: usize, out: &mut [u8; 80]) -> usize
 // Puts the word, one number and a line end, and answers how many bytes that is.
 fn put_value(value: usize, out: &mut [u8; 80]) -> usize
     ensures { λ r. ⌜ Counts r (now (out .exit)) ⌝ }
-    ensures { λ r. ⌜ take r (now (out .exit)) ≡ okText value ⌝ }
+    ensures { λ r. ⌜ AtStart (okText value) (now (out .entry)) (now (out .exit)) r ⌝ }
 {
     let word = put(out, 0, b"ok");
     let first = put_number(out, word, value);
@@ -56,7 +56,7 @@ fn put_value(value: usize, out: &mut [u8; 80]) -> usize
 // Puts the line of an admission's answer, and answers how many bytes it has.
 pub fn put_admission(answer: Admission, out: &mut [u8; 80]) -> usize
     ensures { λ r. ⌜ Counts r (now (out .exit)) ⌝ }
-    ensures { λ r. ⌜ take r (now (out .exit)) ≡ admissionText answer ⌝ }
+    ensures { λ r. ⌜ AtStart (admissionText answer) (now (out .entry)) (now (out .exit)) r ⌝ }
 {
     match answer {
         Admission::Refused { number, place } => put_refusal(number, place, out),
@@ -77,7 +77,7 @@ pub fn put_admission(answer: Admission, out: &mut [u8; 80]) -> usize
 // Puts the line of a search's answer, and answers how many bytes it has.
 pub fn put_found(answer: Found, out: &mut [u8; 80]) -> usize
     ensures { λ r. ⌜ Counts r (now (out .exit)) ⌝ }
-    ensures { λ r. ⌜ take r (now (out .exit)) ≡ foundText answer ⌝ }
+    ensures { λ r. ⌜ AtStart (foundText answer) (now (out .entry)) (now (out .exit)) r ⌝ }
 {
     match answer {
         Found::Refused { number, place } => put_refusal(number, place, out),
@@ -88,7 +88,7 @@ pub fn put_found(answer: Found, out: &mut [u8; 80]) -> usize
 // Puts the line of a withdrawal's answer, and answers how many bytes it has.
 pub fn put_withdrawal(answer: Withdrawal, out: &mut [u8; 80]) -> usize
     ensures { λ r. ⌜ Counts r (now (out .exit)) ⌝ }
-    ensures { λ r. ⌜ take r (now (out .exit)) ≡ withdrawalText answer ⌝ }
+    ensures { λ r. ⌜ AtStart (withdrawalText answer) (now (out .entry)) (now (out .exit)) r ⌝ }
 {
     match answer {
         Withdrawal::Refused { number, place } => put_refusal(number, place, out),

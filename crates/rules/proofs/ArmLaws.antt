@@ -21,7 +21,6 @@ use Rattle.rules.specs.Instance.{Instance}
 use Rattle.rules.specs.Contexts.{context, GivenContexts, GivenRows}
 use Rattle.rules.specs.Stated.{judgmentOf, stated, Numbered, usedPremises, Follows, ShapedFrom, Shaped, placedFrom, FollowsPlaced, AllNumbered, Cited}
 use Rattle.rules.specs.declared.judgments.LineJudgment.{LineJudgment}
-use Rattle.rules.proofs.TableLaws.{row-agrees}
 use Rattle.rules.proofs.TableFitsLaws.{row-fits}
 use Rattle.rules.proofs.ContextTableAnswers.{contexts-given}
 
@@ -140,11 +139,6 @@ module _ (terms contexts : List ℕ) (rule : ℕ) (premises : List LineJudgment)
     unfolding Follows
     fits = row-fits i
 
-    pub follows-form : c .form ≤ 3 → c .form ≡ formOf rule
-    unfolding stated
-    follows-form h =
-        sym (form-of (c .form) _ _ _ _ h) ∙ fits .concludes ∙ row-agrees rule (fits .isRule .0) (fits .isRule .1) .concludes
-
     pub unshaped : (termCount count : ℕ) → AllNumbered termCount count (usedPremises rule premises) → Shaped terms contexts rule premises c
     unfolding stated
     unshaped termCount count h = shaped-from terms contexts rule c 0 ps at
@@ -164,10 +158,7 @@ module _ (terms contexts : List ℕ) (rule : ℕ) (premises : List LineJudgment)
               subst₃ Adds (ap contextOf (stands k) ∙ context-of (getD ps k c .form) _ _ _ _) (ap (countedFrom rule) (context-of (c .form) _ _ _ _)) (ap (addedEntries rule) (omega arith)) a,
             )
 
-  -- a line of another form than the rule's, or with premises that are not shaped, does not follow
-  pub wrong-form : c .form ≤ 3 → (c .form ≡ formOf rule → ⊥) → Decides false (Follows terms contexts rule premises c)
-  wrong-form h k = says-no (λ i. k (follows-form i h))
-
+  -- a line whose premises are not shaped does not follow
   pub wrong-shape : (termCount count : ℕ) → AllNumbered termCount count (usedPremises rule premises) → (r : Bool) → Decides r (Shaped terms contexts rule premises c)
       → r ≡ false → Decides false (Follows terms contexts rule premises c)
   wrong-shape termCount count h r d f = says-no (λ i. refuted r d f (unshaped i termCount count h))

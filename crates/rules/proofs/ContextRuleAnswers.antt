@@ -4,7 +4,7 @@ use mathlib.Core.Path.{_≡_, refl, sym, _∙_, ap, subst}
 use mathlib.Core.Logic.{_↔_}
 use mathlib.Core.Bool.{Bool, true, false, _&&_}
 use mathlib.Core.List.{List, [], _∷_, cons≢nil}
-use Prim.Native.Nat.{ℕ, suc, _+_, _≤_, _<_}
+use Prim.Native.Nat.{ℕ, _+_, _≤_, _<_}
 use native.Mathlib.Numerals.{add-one}
 use native.Mathlib.Omega.{arith}
 use lib.ListN.{drop}
@@ -13,12 +13,11 @@ use Rattle.terms.specs.Tag.{numberIn}
 use Rattle.terms.specs.Substitution.{shift}
 use Rattle.terms.specs.Decides.{Decides}
 use Rattle.terms.specs.Rows.{term}
-use Rattle.terms.specs.Table.{Given}
 use Rattle.terms.proofs.Tests.{says-no, refuted, decides-via, decides-both}
 use Rattle.rules.specs.Judgment.{Context, wf, typed}
 use Rattle.rules.specs.Instance.{Entry, Instance}
 use Rattle.rules.specs.Conditions.{IsUniverse, Declares}
-use Rattle.rules.specs.Contexts.{typeOf, parentOf, context, GivenRows, entryOf}
+use Rattle.rules.specs.Contexts.{typeOf, context, GivenRows, entryOf}
 use Rattle.rules.specs.declared.contexts.FoundEntry.{FoundEntry}
 use Rattle.rules.specs.declared.contexts.FoundEntry.the-variants.{At, Missing}
 use Rattle.rules.proofs.ContextLaws.{rule-1, rule-2}

@@ -17,15 +17,15 @@ use Rattle.terms.proofs.Tables.{and-left, and-right}
 use Rattle.terms.proofs.Tests.{says-no}
 use Rattle.terms.proofs.TermLaws.{same-row}
 use Rattle.rules.specs.Judgment.{Context}
-use Rattle.rules.specs.Contexts.{parentOf, typeOf, context, GoodContext, NumberedContexts, GivenContexts, GivenRows, contextFits, holdsContext, heldWithin, repeatedContext, rightContext, checkContextsFrom, checkContexts}
+use Rattle.rules.specs.Contexts.{parentOf, typeOf, context, GoodContext, GivenContexts, GivenRows, contextFits, holdsContext, repeatedWithin, repeatedContext, rightContext, checkContextsFrom, checkContexts}
 use Rattle.rules.specs.declared.contexts.ContextsAnswer.the-variants.{Sound, Faulty}
 use Rattle.rules.proofs.ContextTableLaws.{context-empty, context-step, same-number}
 
 module _ (contexts : List ℕ) where
-  -- `held`
-  pub held-next : (above row i : ℕ) → heldWithin contexts above row i ≡ false → holdsContext contexts (i + 1) above row ≡ false → heldWithin contexts above row (i + 1) ≡ false
-  unfolding heldWithin
-  held-next above row i h k = rw (add-one, h, ← (add-one i), k, heldWithin)
+  -- `repeated`
+  pub repeated-next : (above row i : ℕ) → repeatedWithin contexts above row i ≡ false → holdsContext contexts (i + 1) above row ≡ false → repeatedWithin contexts above row (i + 1) ≡ false
+  unfolding repeatedWithin
+  repeated-next above row i h k = rw (add-one, h, ← (add-one i), k, repeatedWithin)
 
   module _ (terms : ℕ) where
     -- `right`
@@ -34,7 +34,7 @@ module _ (contexts : List ℕ) where
       unfolding rightContext contextFits
       right-no h = rw (← e, ← f, h, rightContext, contextFits)
 
-      pub right-rest : (b : Bool) → (ltb above n && ltb row terms) ≡ true → b ≡ heldWithin contexts above row (n - 1) → not b ≡ rightContext contexts terms n
+      pub right-rest : (b : Bool) → (ltb above n && ltb row terms) ≡ true → b ≡ repeatedWithin contexts above row (n - 1) → not b ≡ rightContext contexts terms n
       unfolding rightContext contextFits repeatedContext
       right-rest b h k = rw (← e, ← f, h, ← k, rightContext, contextFits, repeatedContext)
 
@@ -138,9 +138,6 @@ module _ (terms contexts : List ℕ) where
     pub contexts-given : (ms : List ℕ) → AllBelow (suc (g .count)) ms → GivenContexts terms contexts ms
     contexts-given ms h =
         record { termCount = g .termCount; fewTerms = g .fewTerms; termTable = g .termTable; count = g .count; few = g .few; table = g .table; within = h }
-
-    pub contexts-numbered : (ms : List ℕ) → AllBelow (suc (g .count)) ms → NumberedContexts contexts ms
-    contexts-numbered ms h = record { termCount = g .termCount; count = g .count; table = g .table; within = h }
 
     pub rows-given : (ts : List ℕ) → AllBelow (g .termCount) ts → Given terms ts
     rows-given ts h = record { count = g .termCount; few = g .fewTerms; table = g .termTable; below = h }

@@ -11,7 +11,7 @@ use lib.Dec.{ltb, eqb}
 use lib.ListN.{length}
 use borrow.Author.Tests.{ltb-true, lt-ltb, eqb-true, eq-eqb, not-true, not-false}
 use Rattle.terms.proofs.Tables.{and-left, and-right}
-use Rattle.rules.specs.Contexts.{parentOf, typeOf, GoodContext, SameContextRow, RepeatsContext, ContextTable, FirstFaultyContext, contextFits, holdsContext, heldWithin, repeatedContext, rightContext, checkContextsFrom, checkContexts}
+use Rattle.rules.specs.Contexts.{parentOf, typeOf, GoodContext, SameContextRow, RepeatsContext, ContextTable, FirstFaultyContext, contextFits, holdsContext, repeatedWithin, repeatedContext, rightContext, checkContextsFrom, checkContexts}
 use Rattle.rules.specs.declared.contexts.ContextsAnswer.the-variants.{Sound, Faulty}
 
 either : (b : Bool) → (b ≡ true) ⊎ (b ≡ false)
@@ -29,29 +29,29 @@ module _ (contexts : List ℕ) where
     λ h. ap₂ _&&_ (eq-eqb _ _ (h .0)) (eq-eqb _ _ (h .1)),
   )
 
-  held-some : (parent entry k : ℕ) → heldWithin contexts parent entry k ≡ true → (m : ℕ) × (1 ≤ m) × (m ≤ k) × (parentOf contexts m ≡ parent) × (typeOf contexts m ≡ entry)
-  unfolding heldWithin
-  held-some parent entry zero h = absurd (false≢true h)
-  held-some parent entry (suc k) h =
+  repeated-some : (parent entry k : ℕ) → repeatedWithin contexts parent entry k ≡ true → (m : ℕ) × (1 ≤ m) × (m ≤ k) × (parentOf contexts m ≡ parent) × (typeOf contexts m ≡ entry)
+  unfolding repeatedWithin
+  repeated-some parent entry zero h = absurd (false≢true h)
+  repeated-some parent entry (suc k) h =
       ⊎-elim
-      (λ e. let r = held-some parent entry k e in (r .0, r .1, omega (arith, r .2), r .3, r .4))
+      (λ e. let r = repeated-some parent entry k e in (r .0, r .1, omega (arith, r .2), r .3, r .4))
       (λ e. let s = holds-same (suc k) parent entry .0 (ap (λ b. b || holdsContext contexts (suc k) parent entry) (sym e) ∙ h) in (suc k, omega arith, omega arith, s .0, s .1))
-      (either (heldWithin contexts parent entry k))
+      (either (repeatedWithin contexts parent entry k))
 
-  pub some-held : (parent entry m k : ℕ) → m ≤ k → 1 ≤ m → holdsContext contexts m parent entry ≡ true → heldWithin contexts parent entry k ≡ true
-  unfolding heldWithin
-  some-held parent entry m zero l low h = absurd (omega arith)
-  some-held parent entry m (suc k) l low h =
+  pub some-repeated : (parent entry m k : ℕ) → m ≤ k → 1 ≤ m → holdsContext contexts m parent entry ≡ true → repeatedWithin contexts parent entry k ≡ true
+  unfolding repeatedWithin
+  some-repeated parent entry m zero l low h = absurd (omega arith)
+  some-repeated parent entry m (suc k) l low h =
       ⊎-elim
-      (λ e. ap (λ b. heldWithin contexts parent entry k || b) (ap (λ n. holdsContext contexts n parent entry) (sym e) ∙ h) ∙ or-true (heldWithin contexts parent entry k))
-      (λ e. ap (λ b. b || holdsContext contexts (suc k) parent entry) (some-held parent entry m k (omega arith) low h))
+      (λ e. ap (λ b. repeatedWithin contexts parent entry k || b) (ap (λ n. holdsContext contexts n parent entry) (sym e) ∙ h) ∙ or-true (repeatedWithin contexts parent entry k))
+      (λ e. ap (λ b. b || holdsContext contexts (suc k) parent entry) (some-repeated parent entry m k (omega arith) low h))
       (eq-or-lt-of-le l)
 
   repeated-is : (n : ℕ) → (repeatedContext contexts n ≡ true) ↔ RepeatsContext contexts n
   unfolding repeatedContext
   repeated-is n = (
-    λ h. let r = held-some (parentOf contexts n) (typeOf contexts n) (n - 1) h in (r .0, r .1, omega (arith, r .1, r .2), (r .3, r .4)),
-    λ r. some-held (parentOf contexts n) (typeOf contexts n) (r .0) (n - 1) (omega (arith, r .2)) (r .1) (holds-same (r .0) (parentOf contexts n) (typeOf contexts n) .1 (r .3)),
+    λ h. let r = repeated-some (parentOf contexts n) (typeOf contexts n) (n - 1) h in (r .0, r .1, omega (arith, r .1, r .2), (r .3, r .4)),
+    λ r. some-repeated (parentOf contexts n) (typeOf contexts n) (r .0) (n - 1) (omega (arith, r .2)) (r .1) (holds-same (r .0) (parentOf contexts n) (typeOf contexts n) .1 (r .3)),
   )
 
 module _ (contexts : List ℕ) (terms : ℕ) where

@@ -8,7 +8,8 @@ use native.Mathlib.Omega.{arith}
 use borrow.Author.Tests.{le-leb, lt-leb}
 use lib.ListN.{getD, length}
 use Rattle.terms.proofs.Tables.{at-most}
-use Rattle.rules.specs.RuleTable.{ruleTable, tableAt, formOf}
+use Rattle.rules.specs.RuleTable.{ruleTable, tableAt, premiseForm, addedEntries, ruleRow, formOf}
+use Rattle.rules.specs.declared.table.RuleRow.{RuleRow}
 use Rattle.rules.proofs.TableLaws.{table-length}
 
 -- within a list it does not matter what stands past its end
@@ -25,6 +26,13 @@ table-entry rule column low high small = within ruleTable (10 * (rule - 1) + col
 pub table-most : (k : ℕ) → getD ruleTable k 0 ≤ 255
 unfolding ruleTable
 table-most k = at-most 255 ruleTable refl k
+
+-- the numbers of columns 2 to 9 make the row
+pub row-is : (rule : ℕ) {a b c d i j k l : ℕ} → a ≡ tableAt rule 2 → b ≡ tableAt rule 3 → c ≡ tableAt rule 4 → d ≡ tableAt rule 5
+    → i ≡ tableAt rule 6 → j ≡ tableAt rule 7 → k ≡ tableAt rule 8 → l ≡ tableAt rule 9
+    → _≡_ {A = RuleRow} (record { form0 = a; form1 = b; form2 = c; form3 = d; added0 = i; added1 = j; added2 = k; added3 = l }) (ruleRow rule)
+unfolding ruleRow premiseForm addedEntries
+row-is rule ea eb ec ed ei ej ek el = cc
 
 -- the ranges of rules, by the form that they conclude
 module _ (rule : ℕ) where

@@ -1,10 +1,11 @@
 -- What a premise adds is found by going up from its context, and the rule table's demands on four premises are tested one by one.
 -- Assumes nothing.
-use mathlib.Core.Path.{_≡_, refl, sym, _∙_, ap, subst, subst₂}
+use mathlib.Core.Path.{_≡_, refl, sym, _∙_, ap, subst₂}
 use mathlib.Core.Logic.{_↔_}
 use mathlib.Core.Bool.{Bool, true, false, _&&_}
 use mathlib.Core.List.{List, [], _∷_, _++_, map, cons≢nil}
 use Prim.Native.Nat.{ℕ, zero, suc, _+_, _-_, _≤_, _<_}
+use native.Mathlib.Decide.{decLe}
 use native.Mathlib.Omega.{arith}
 use borrow.Author.Tests.{eqb-true, eq-eqb, ne-eqb}
 use lib.Dec.{eqb}
@@ -15,18 +16,15 @@ use Rattle.terms.specs.Rows.{term}
 use Rattle.terms.specs.Table.{AllBelow}
 use Rattle.terms.proofs.Tests.{says-yes, says-no, decides-via, decides-both}
 use Rattle.rules.specs.Judgment.{Context}
-use Rattle.rules.specs.RuleTable.{premiseCount, premiseForm, addedEntries, countedFrom, Adds}
+use Rattle.rules.specs.RuleTable.{premiseCount, premiseForm, addedEntries, ruleRow, countedFrom, Adds}
 use Rattle.rules.specs.Contexts.{parentOf, typeOf, context, GivenContexts}
 use Rattle.rules.specs.Stated.{usedPremises, ShapedFrom, Shaped}
 use Rattle.rules.specs.declared.judgments.LineJudgment.{LineJudgment}
+use Rattle.rules.specs.declared.table.RuleRow.{RuleRow}
 use Rattle.rules.proofs.TableLaws.{row-agrees}
 use Rattle.rules.proofs.ContextTableLaws.{context-empty, context-step}
 use Rattle.rules.proofs.ContextTableAnswers.{same-says, contexts-given, parent-given}
 use Rattle.rules.proofs.ArmLaws.{adds-none, Fits}
-
--- a premise that the rule uses is one of four
-pub place-low : (rule j : ℕ) → (1 ≤ rule) × (rule ≤ 43) × (j < premiseCount rule) → (1 ≤ rule) × (rule ≤ 43) × (j < 4)
-place-low rule j h = (h .0, h .1, omega (arith, row-agrees rule (h .0) (h .1) .count, h .2))
 
 adds-same : {H G : Context} {k : ℕ} → k ≡ 0 → (H ≡ G) ↔ Adds H G k
 adds-same z = (λ e. record { new = []; many = sym z; joined = e }, λ a. adds-none a z)
@@ -49,6 +47,20 @@ adds-empty {H} {G} {k} e some a = none (a .new) (a .many) (a .joined)
     none : (new : Context) → length new ≡ k → H ≡ new ++ G → ⊥
     none [] l j = some (sym l)
     none (B ∷ new) l j = cons≢nil (sym j ∙ e)
+
+-- the row's fields by place
+abbrev formAt : RuleRow → ℕ → ℕ
+formAt row j = getD (row .form0 ∷ row .form1 ∷ row .form2 ∷ row .form3 ∷ []) j 255
+
+abbrev addedAt : RuleRow → ℕ → ℕ
+addedAt row j = getD (row .added0 ∷ row .added1 ∷ row .added2 ∷ row .added3 ∷ []) j 255
+
+one-of-four : (f : ℕ → ℕ) (j : ℕ) → j < 4 → getD (f 0 ∷ f 1 ∷ f 2 ∷ f 3 ∷ []) j 255 ≡ f j
+one-of-four f zero l = refl
+one-of-four f (suc zero) l = refl
+one-of-four f (suc (suc zero)) l = refl
+one-of-four f (suc (suc (suc zero))) l = refl
+one-of-four f (suc (suc (suc (suc j)))) l = absurd (omega arith)
 
 module _ (terms contexts : List ℕ) where
   parent-step : (n : ℕ) (ns : List ℕ) → GivenContexts terms contexts (n ∷ ns) → (n ≡ 0 → ⊥)
@@ -104,24 +116,19 @@ module _ (terms contexts : List ℕ) where
         omega (arith, g .within .0, g .table .rows n (omega arith) (omega (arith, g .within .0)) .earlier),
       )
 
-  -- `premise_fits` and `fits_if_used`
-  pub base-given : (n m base : ℕ) → GivenContexts terms contexts (n ∷ m ∷ []) → base ≤ n → GivenContexts terms contexts (m ∷ base ∷ [])
-  base-given n m base g h = contexts-given terms contexts (n ∷ m ∷ []) g (m ∷ base ∷ []) (g .within .1 .0, (omega (arith, g .within .0), tt))
+  -- `fits_if_used`: what a place of the row asks of a premise, unless its form is 255
+  module _ (base form added : ℕ) (p : LineJudgment) where
+    abbrev FitsFrom : Type 0
+    FitsFrom = (form ≡ 255 → ⊥) → (p .form ≡ form) × Adds (context terms contexts (p .context)) (context terms contexts base) added
 
-  module _ (rule j : ℕ) (c p : LineJudgment) where
-    pub fits-says : (form base count : ℕ) (b : Bool) → form ≡ premiseForm rule j → context terms contexts base ≡ countedFrom rule (context terms contexts (c .context))
-        → count ≡ addedEntries rule j → Decides b (Adds (context terms contexts (p .context)) (context terms contexts base) count)
-        → Decides (eqb (p .form) form && b) (Fits terms contexts rule c p j)
-    fits-says form base count b e f k d =
-        decides-both (eqb (p .form) form) b
-        (subst (λ m. Decides (eqb (p .form) form) (p .form ≡ m)) e (eqb-true (p .form) form, eq-eqb (p .form) form))
-        (subst₂ (λ G m. Decides b (Adds (context terms contexts (p .context)) G m)) f k d)
+    pub unused-says : form ≡ 255 → Decides true FitsFrom
+    unused-says e = says-yes (λ some. absurd (some e))
 
-    pub unused-says : premiseCount rule ≤ j → Decides true (j < premiseCount rule → Fits terms contexts rule c p j)
-    unused-says h = says-yes (λ l. absurd (omega arith))
-
-    pub used-says : (b : Bool) → j < premiseCount rule → Decides b (Fits terms contexts rule c p j) → Decides b (j < premiseCount rule → Fits terms contexts rule c p j)
-    used-says b l d = decides-via b (λ x k. x, λ f. f l) d
+    pub fits-says : (b : Bool) → (form ≡ 255 → ⊥) → Decides b (Adds (context terms contexts (p .context)) (context terms contexts base) added)
+        → Decides (eqb (p .form) form && b) FitsFrom
+    fits-says b some d =
+        decides-via (eqb (p .form) form && b) (λ x k. x, λ f. f some)
+        (decides-both (eqb (p .form) form) b (eqb-true (p .form) form, eq-eqb (p .form) form) d)
 
   -- `shaped`: the demands on those of the premises that stand before place n
   module _ (rule : ℕ) (c : LineJudgment) where
@@ -141,27 +148,56 @@ module _ (terms contexts : List ℕ) where
         let rest = asked-shaped n (suc j) m ps (omega arith) in
         (λ h. (h .0 (omega arith), rest .0 (h .1)), λ h. (λ l. h .0, rest .1 (h .1)))
 
-    pub shaped-says : (p q r s : LineJudgment) (a b d e : Bool)
-        → Decides a (0 < premiseCount rule → Fits terms contexts rule c p 0) → Decides b (1 < premiseCount rule → Fits terms contexts rule c q 1)
-        → Decides d (2 < premiseCount rule → Fits terms contexts rule c r 2) → Decides e (3 < premiseCount rule → Fits terms contexts rule c s 3)
-        → Decides (((a && b) && d) && e) (Shaped terms contexts rule (p ∷ q ∷ r ∷ s ∷ []) c)
-    unfolding usedPremises
-    shaped-says p q r s a b d e ha hb hd he =
-        decides-via (((a && b) && d) && e) (λ t. asked .0 (t .0 .0 .0, (t .0 .0 .1, (t .0 .1, (t .1, tt)))), λ t. let u = asked .1 t in (((u .0, u .1 .0), u .1 .1 .0), u .1 .1 .1 .0))
-        (decides-both ((a && b) && d) e (decides-both (a && b) d (decides-both a b ha hb) hd) he)
-      where
-        asked : Asked (premiseCount rule) 0 (p ∷ q ∷ r ∷ s ∷ []) ↔ Shaped terms contexts rule (p ∷ q ∷ r ∷ s ∷ []) c
-        asked = asked-shaped (premiseCount rule) 0 (premiseCount rule) (p ∷ q ∷ r ∷ s ∷ []) (omega arith)
-
     below-used : (bound n : ℕ) (ps : List LineJudgment) → AllBelow bound (map (λ k. k .context) (take n ps)) → (j : ℕ) → j < n → j < length ps → getD ps j c .context < bound
     below-used bound zero ps h j l m = absurd (omega arith)
     below-used bound (suc n) [] h j l m = absurd (omega arith)
     below-used bound (suc n) (p ∷ ps) h zero l m = h .0
     below-used bound (suc n) (p ∷ ps) h (suc j) l m = below-used bound n ps (h .1) j (omega arith) (omega arith)
 
-    pub used-given : (ps : List LineJudgment) → GivenContexts terms contexts (c .context ∷ map (λ k. k .context) (usedPremises rule ps))
-        → (j : ℕ) → j < length ps → j < premiseCount rule → GivenContexts terms contexts (c .context ∷ getD ps j c .context ∷ [])
-    unfolding usedPremises
-    used-given ps g j m l =
-        contexts-given terms contexts (c .context ∷ map (λ k. k .context) (usedPremises rule ps)) g (c .context ∷ getD ps j c .context ∷ [])
-        (g .within .0, (below-used (suc (g .count)) (premiseCount rule) ps (g .within .1) j l m, tt))
+    -- over the row and the context that entries are counted from, as they were read
+    module _ (isRule : (1 ≤ rule) × (rule ≤ 43)) (row : RuleRow) (isRow : row ≡ ruleRow rule) (base : ℕ)
+        (isBase : (context terms contexts base ≡ countedFrom rule (context terms contexts (c .context))) × (base ≤ c .context)) (p q r s : LineJudgment) where
+      abbrev premises : List LineJudgment
+      premises = p ∷ q ∷ r ∷ s ∷ []
+
+      form-at : (j : ℕ) → j < 4 → formAt row j ≡ premiseForm rule j
+      unfolding ruleRow
+      form-at j l = ap (λ w. formAt w j) isRow ∙ one-of-four (premiseForm rule) j l
+
+      added-at : (j : ℕ) → j < 4 → addedAt row j ≡ addedEntries rule j
+      unfolding ruleRow
+      added-at j l = ap (λ w. addedAt w j) isRow ∙ one-of-four (addedEntries rule) j l
+
+      -- a place asks for a premise where the rule uses one
+      used-at : (j : ℕ) → j < 4 → (formAt row j ≡ 255 → ⊥) ↔ (j < premiseCount rule)
+      used-at j l = let marks = row-agrees rule (isRule .0) (isRule .1) .forms j l in (
+        λ some. elim (decLe (premiseCount rule) j) [ yes m ↦ absurd (some (form-at j l ∙ marks .1 m)) | no m ↦ omega arith ],
+        λ m e. let n : premiseCount rule ≤ j = marks .0 (sym (form-at j l) ∙ e) in omega arith,
+      )
+
+      pub used-given : GivenContexts terms contexts (c .context ∷ map (λ k. k .context) (usedPremises rule premises))
+          → (j : ℕ) → j < 4 → (formAt row j ≡ 255 → ⊥) → GivenContexts terms contexts (getD premises j c .context ∷ base ∷ [])
+      unfolding usedPremises
+      used-given g j l some =
+          contexts-given terms contexts (c .context ∷ map (λ k. k .context) (usedPremises rule premises)) g (getD premises j c .context ∷ base ∷ [])
+          (below-used (suc (g .count)) (premiseCount rule) premises (g .within .1) j (used-at j l .0 some) l, (omega (arith, isBase .1, g .within .0), tt))
+
+      as-asked : (j : ℕ) → j < 4 → (k : LineJudgment) (b : Bool) → Decides b (FitsFrom base (formAt row j) (addedAt row j) k)
+          → Decides b (j < premiseCount rule → Fits terms contexts rule c k j)
+      as-asked j l k b d =
+          decides-via b (
+            λ f m. let x = f (used-at j l .1 m) in (x .0 ∙ form-at j l, subst₂ (Adds (context terms contexts (k .context))) (isBase .0) (added-at j l) (x .1)),
+            λ f some. let x = f (used-at j l .0 some) in (x .0 ∙ sym (form-at j l), subst₂ (Adds (context terms contexts (k .context))) (sym (isBase .0)) (sym (added-at j l)) (x .1)),
+          )
+          d
+
+      pub shaped-says : (x y z w : Bool) → Decides x (FitsFrom base (row .form0) (row .added0) p) → Decides y (FitsFrom base (row .form1) (row .added1) q)
+          → Decides z (FitsFrom base (row .form2) (row .added2) r) → Decides w (FitsFrom base (row .form3) (row .added3) s)
+          → Decides (((x && y) && z) && w) (Shaped terms contexts rule premises c)
+      unfolding usedPremises
+      shaped-says x y z w hx hy hz hw =
+          decides-via (((x && y) && z) && w) (λ t. asked .0 (t .0 .0 .0, (t .0 .0 .1, (t .0 .1, (t .1, tt)))), λ t. let u = asked .1 t in (((u .0, u .1 .0), u .1 .1 .0), u .1 .1 .1 .0))
+          (decides-both ((x && y) && z) w (decides-both (x && y) z (decides-both x y (as-asked 0 (omega arith) p x hx) (as-asked 1 (omega arith) q y hy)) (as-asked 2 (omega arith) r z hz)) (as-asked 3 (omega arith) s w hw))
+        where
+          asked : Asked (premiseCount rule) 0 premises ↔ Shaped terms contexts rule premises c
+          asked = asked-shaped (premiseCount rule) 0 (premiseCount rule) premises (omega arith)

@@ -93,13 +93,13 @@ unfoldable pub holdsContext : List ℕ → ℕ → ℕ → ℕ → Bool
 holdsContext contexts n parent entry = eqb (parentOf contexts n) parent && eqb (typeOf contexts n) entry
 
 -- one of the rows 1 to n holds these two words
-unfoldable pub heldWithin : List ℕ → ℕ → ℕ → ℕ → Bool
-heldWithin contexts parent entry zero = false
-heldWithin contexts parent entry (suc n) = heldWithin contexts parent entry n || holdsContext contexts (suc n) parent entry
+unfoldable pub repeatedWithin : List ℕ → ℕ → ℕ → ℕ → Bool
+repeatedWithin contexts parent entry zero = false
+repeatedWithin contexts parent entry (suc n) = repeatedWithin contexts parent entry n || holdsContext contexts (suc n) parent entry
 
 -- number 8, repetition: a row before n equals it
 unfoldable pub repeatedContext : List ℕ → ℕ → Bool
-repeatedContext contexts n = heldWithin contexts (parentOf contexts n) (typeOf contexts n) (n - 1)
+repeatedContext contexts n = repeatedWithin contexts (parentOf contexts n) (typeOf contexts n) (n - 1)
 
 -- row n breaks nothing that number 8 asks
 unfoldable pub rightContext : List ℕ → ℕ → ℕ → Bool

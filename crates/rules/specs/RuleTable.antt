@@ -9,6 +9,7 @@ use Prim.Native.Nat.{ℕ, _+_, _-_, _*_, _≤_, _<_}
 use lib.Dec.{leb, eqb}
 use lib.ListN.{getD, length, drop}
 use Rattle.rules.specs.Judgment.{Context, Judgment, form, contextOf}
+use Rattle.rules.specs.declared.table.RuleRow.{RuleRow}
 
 unfoldable pub ruleTable : List ℕ
 ruleTable =
@@ -78,6 +79,20 @@ premiseForm rule j = tableAt rule (2 + j)
 unfoldable pub addedEntries : ℕ → ℕ → ℕ
 unfolding tableAt
 addedEntries rule j = tableAt rule (6 + j)
+
+-- what the rule asks of its four premises
+unfoldable pub ruleRow : ℕ → RuleRow
+ruleRow rule =
+    record {
+      form0 = premiseForm rule 0;
+      form1 = premiseForm rule 1;
+      form2 = premiseForm rule 2;
+      form3 = premiseForm rule 3;
+      added0 = addedEntries rule 0;
+      added1 = addedEntries rule 1;
+      added2 = addedEntries rule 2;
+      added3 = addedEntries rule 3;
+    }
 
 -- "The ranges 1-2, 3-16, 17-34 and 35-43 conclude forms 0, 1, 2 and 3"; 255, which is no form, where there is no such rule
 unfoldable pub formOf : ℕ → ℕ

@@ -9,7 +9,7 @@ ghost use lib.ListN.{length};
 ghost use Rattle.terms.specs.Decides.{Decides};
 ghost use Rattle.terms.specs.Term.{nat};
 ghost use Rattle.terms.specs.Rows.{term};
-ghost use Rattle.rules.specs.Contexts.{parentOf, typeOf, context, NumberedContexts, GivenContexts, GivenRows, holdsContext, heldWithin, rightContext, checkContexts, entryOf};
+ghost use Rattle.rules.specs.Contexts.{parentOf, typeOf, context, NumberedContexts, GivenContexts, GivenRows, holdsContext, repeatedWithin, rightContext, checkContexts, entryOf};
 
 // What the check of a table finds: every row is right, or the first faulty row.
 pub enum ContextsAnswer {
@@ -50,9 +50,9 @@ fn holds(contexts: &[u8], n: usize, above: usize, row: usize) -> bool
 }
 
 // Does one of the first `count` rows hold these two words?
-fn held(contexts: &[u8], above: usize, row: usize, count: usize) -> bool
+fn repeated(contexts: &[u8], above: usize, row: usize, count: usize) -> bool
     requires { ⌜ 4 * count ≤ length (now contexts) ⌝ }
-    ensures { λ r. ⌜ r ≡ heldWithin (now (contexts .entry)) above row count ⌝ }
+    ensures { λ r. ⌜ r ≡ repeatedWithin (now (contexts .entry)) above row count ⌝ }
 {
     let mut i = 0;
     while i < count {
@@ -72,7 +72,7 @@ fn right(contexts: &[u8], terms: usize, n: usize) -> bool
     let above = parent(contexts, n);
     let row = type_of(contexts, n);
     if (above < n) & (row < terms) {
-        !held(contexts, above, row, n - 1)
+        !repeated(contexts, above, row, n - 1)
     } else {
         false
     }

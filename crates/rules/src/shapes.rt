@@ -1,15 +1,13 @@
 // What the rule table asks of the premises: their forms, and how many entries their contexts add.
 use crate::contexts::parent;
 use crate::judgments::LineJudgment;
-use crate::table::added_entries;
-use crate::table::premise_count;
-use crate::table::premise_form;
+use crate::table::rule_row;
 ghost use mathlib.Core.Path.{_≡_};
 ghost use mathlib.Core.List.{[], _∷_, map};
-ghost use Prim.Native.Nat.{_<_, _≤_};
+ghost use Prim.Native.Nat.{_≤_};
 ghost use Rattle.terms.specs.Decides.{Decides};
 ghost use Rattle.rules.specs.Contexts.{context, GivenContexts};
-ghost use Rattle.rules.specs.RuleTable.{premiseCount, premiseForm, addedEntries, countedFrom, Adds};
+ghost use Rattle.rules.specs.RuleTable.{countedFrom, Adds};
 ghost use Rattle.rules.specs.Stated.{usedPremises, Shaped};
 
 // Is context `n` the context `base` with `count` entries added? It goes up by parents; the tables are well formed, so that equal
@@ -45,41 +43,23 @@ fn counted_from(terms: &[u8], contexts: &[u8], rule: usize, n: usize) -> usize
     parent(contexts, n)
 }
 
-// Has premise `j`, that the rule uses, the table's form and the table's number of added entries?
-pub fn premise_fits(
-    terms: &[u8],
-    contexts: &[u8],
-    rule: usize,
-    j: usize,
-    c: LineJudgment,
-    p: LineJudgment,
-) -> bool
-    requires { ⌜ (1 ≤ rule) × (rule ≤ 43) × (j < premiseCount rule) ⌝ }
-    requires { ⌜ GivenContexts (now terms) (now contexts) (c .context ∷ p .context ∷ []) ⌝ }
-    ensures { λ r. ⌜ Decides r ((p .form ≡ premiseForm rule j) × Adds (context (now (terms .entry)) (now (contexts .entry)) (p .context)) (countedFrom rule (context (now (terms .entry)) (now (contexts .entry)) (c .context))) (addedEntries rule j)) ⌝ }
-{
-    let base = counted_from(terms, contexts, rule, c.context);
-    (p.form == premise_form(rule, j))
-        & adds(terms, contexts, p.context, base, added_entries(rule, j))
-}
-
-// The same, or is the rule's premise count at most `j`?
+// Has the premise the form, and has its context the entries added to the context `base`? A form of 255 asks for no premise, and `p` is
+// not looked at.
 fn fits_if_used(
     terms: &[u8],
     contexts: &[u8],
-    rule: usize,
-    j: usize,
-    c: LineJudgment,
+    base: usize,
+    form: usize,
+    added: usize,
     p: LineJudgment,
 ) -> bool
-    requires { ⌜ (1 ≤ rule) × (rule ≤ 43) ⌝ }
-    requires { ⌜ (j < premiseCount rule → GivenContexts (now terms) (now contexts) (c .context ∷ p .context ∷ [])) ⌝ }
-    ensures { λ r. ⌜ Decides r (j < premiseCount rule → (p .form ≡ premiseForm rule j) × Adds (context (now (terms .entry)) (now (contexts .entry)) (p .context)) (countedFrom rule (context (now (terms .entry)) (now (contexts .entry)) (c .context))) (addedEntries rule j)) ⌝ }
+    requires { ⌜ ((form ≡ 255 → ⊥) → GivenContexts (now terms) (now contexts) (p .context ∷ base ∷ [])) ⌝ }
+    ensures { λ r. ⌜ Decides r ((form ≡ 255 → ⊥) → (p .form ≡ form) × Adds (context (now (terms .entry)) (now (contexts .entry)) (p .context)) (context (now (terms .entry)) (now (contexts .entry)) base) added) ⌝ }
 {
-    if premise_count(rule) <= j {
+    if form == 255 {
         return true;
     }
-    premise_fits(terms, contexts, rule, j, c, p)
+    (p.form == form) & adds(terms, contexts, p.context, base, added)
 }
 
 // Are the premises of `p`, `q`, `r`, `s` that the rule uses as the table asks? The others are not looked at.
@@ -97,8 +77,10 @@ pub fn shaped(
     requires { ⌜ GivenContexts (now terms) (now contexts) (c .context ∷ map (λ k. k .context) (usedPremises rule (p ∷ q ∷ r ∷ s ∷ []))) ⌝ }
     ensures { λ fit. ⌜ Decides fit (Shaped (now (terms .entry)) (now (contexts .entry)) rule (p ∷ q ∷ r ∷ s ∷ []) c) ⌝ }
 {
-    fits_if_used(terms, contexts, rule, 0, c, p)
-        & fits_if_used(terms, contexts, rule, 1, c, q)
-        & fits_if_used(terms, contexts, rule, 2, c, r)
-        & fits_if_used(terms, contexts, rule, 3, c, s)
+    let row = rule_row(rule);
+    let base = counted_from(terms, contexts, rule, c.context);
+    fits_if_used(terms, contexts, base, row.form0, row.added0, p)
+        & fits_if_used(terms, contexts, base, row.form1, row.added1, q)
+        & fits_if_used(terms, contexts, base, row.form2, row.added2, r)
+        & fits_if_used(terms, contexts, base, row.form3, row.added3, s)
 }

@@ -1,8 +1,8 @@
 // The rule table: ten numbers for each rule, rules counted from 1. They are the conclusion's form, the premise count, four premise
 // forms, and four counts of entries that a premise's context adds; 255 where there is no premise.
 ghost use mathlib.Core.Path.{_≡_};
-ghost use Prim.Native.Nat.{_+_, _*_, _<_, _≤_};
-ghost use Rattle.rules.specs.RuleTable.{tableAt, premiseCount, premiseForm, addedEntries, formOf};
+ghost use Prim.Native.Nat.{_<_, _≤_};
+ghost use Rattle.rules.specs.RuleTable.{ruleTable, tableAt, premiseCount, ruleRow, formOf};
 
 const TABLE: [u8; 430] = [
     // 1 WF-NIL
@@ -480,13 +480,25 @@ const TABLE: [u8; 430] = [
     255,
 ];
 
-// The number in a rule's row, columns counted from 0.
-pub fn table_at(rule: usize, column: usize) -> usize
+// What a rule asks of its four premises: their forms, and how many entries their contexts add; 255 where there is no premise.
+pub struct RuleRow {
+    pub form0: usize,
+    pub form1: usize,
+    pub form2: usize,
+    pub form3: usize,
+    pub added0: usize,
+    pub added1: usize,
+    pub added2: usize,
+    pub added3: usize,
+}
+
+// The number in a rule's row, columns counted from 0. The table is lent, because each use of the constant makes all its bytes anew.
+fn table_at(table: &[u8; 430], rule: usize, column: usize) -> usize
+    requires { ⌜ now table ≡ ruleTable ⌝ }
     requires { ⌜ (1 ≤ rule) × (rule ≤ 43) × (column < 10) ⌝ }
-    ensures value { λ r. ⌜ r ≡ tableAt rule column ⌝ }
-    ensures range { λ r. ⌜ r ≤ 255 ⌝ }
+    ensures { λ r. ⌜ r ≡ tableAt rule column ⌝ }
 {
-    TABLE[10 * (rule - 1) + column] as usize
+    table[10 * (rule - 1) + column] as usize
 }
 
 // How many premises the rule has.
@@ -495,23 +507,25 @@ pub fn premise_count(rule: usize) -> usize
     ensures value { λ r. ⌜ r ≡ premiseCount rule ⌝ }
     ensures range { λ r. ⌜ r ≤ 4 ⌝ }
 {
-    table_at(rule, 1)
+    table_at(&TABLE, rule, 1)
 }
 
-// The form of premise `j`, counted from 0.
-pub fn premise_form(rule: usize, j: usize) -> usize
-    requires { ⌜ (1 ≤ rule) × (rule ≤ 43) × (j < 4) ⌝ }
-    ensures { λ r. ⌜ r ≡ premiseForm rule j ⌝ }
+// What the rule asks of its premises: the table is made once for the eight reads.
+pub fn rule_row(rule: usize) -> RuleRow
+    requires { ⌜ (1 ≤ rule) × (rule ≤ 43) ⌝ }
+    ensures { λ r. ⌜ r ≡ ruleRow rule ⌝ }
 {
-    table_at(rule, 2 + j)
-}
-
-// How many entries the context of premise `j` adds.
-pub fn added_entries(rule: usize, j: usize) -> usize
-    requires { ⌜ (1 ≤ rule) × (rule ≤ 43) × (j < 4) ⌝ }
-    ensures { λ r. ⌜ r ≡ addedEntries rule j ⌝ }
-{
-    table_at(rule, 6 + j)
+    let table = &TABLE;
+    RuleRow {
+        form0: table_at(table, rule, 2),
+        form1: table_at(table, rule, 3),
+        form2: table_at(table, rule, 4),
+        form3: table_at(table, rule, 5),
+        added0: table_at(table, rule, 6),
+        added1: table_at(table, rule, 7),
+        added2: table_at(table, rule, 8),
+        added3: table_at(table, rule, 9),
+    }
 }
 
 // The form of the conclusion, by the ranges of rules; 255 where there is no such rule.

@@ -8,9 +8,10 @@ use answers::numbers::request_of;
 use answers::runs::admit_sheet;
 use answers::runs::print_admission;
 use answers::runs::print_withdrawal;
+use answers::runs::read_sheet;
 use answers::runs::run_admission;
 use answers::runs::run_search;
-use answers::runs::withdraw_input;
+use answers::runs::withdraw_sheet;
 use libc::STDOUT_FILENO;
 use sheets::withdrawal::Withdrawal;
 ghost use mathlib.Core.Path.{_≡_};
@@ -76,18 +77,25 @@ fn find_numbers(fd: i32, line: &[u8]) {
     }
 }
 
-// Withdraws a line of an opened sheet, and admits the sheet that is left.
+// Withdraws a line of a sheet, and admits the sheet that is left.
+fn withdraw_line(sheet: &[u8], number: usize) {
+    let mut out = [0u8; 52240];
+    let answer = withdraw_sheet(sheet, number, &mut out);
+    print_withdrawal(answer);
+    if let Withdrawal::Written { length } = answer {
+        print_admission(admit_sheet(&out[..length]));
+    }
+}
+
+// The same, for an opened sheet and the number of a line of the list.
 fn withdraw_number(fd: i32, line: &[u8]) {
     let Reading::Number(number) = number_in(line, 1) else {
         io::write_all(STDOUT_FILENO, b"unreadable\n");
         return;
     };
-    let mut out = [0u8; 52241];
-    let answer = withdraw_input(fd, number, &mut out);
-    print_withdrawal(answer);
-    if let Withdrawal::Written { length } = answer {
-        print_admission(admit_sheet(&out[..length]));
-    }
+    let mut sheet = [0u8; 52241];
+    let length = read_sheet(fd, &mut sheet).length;
+    withdraw_line(&sheet[..length], number);
 }
 
 // Runs one line of a list.

@@ -128,20 +128,27 @@ module _ (bytes : List ℕ) (work : ℕ) where
       from (refused f) = f
 
 -- the numbers of a stage
-layout-number : {bytes : List ℕ} {work number : ℕ} → LayoutFault bytes work number → number ≤ 4
-layout-number (wrongLength f) = omega arith
-layout-number (notMarked r f) = omega arith
-layout-number (disagreeing r m f) = omega arith
-layout-number (shortWork T C L h k) = omega arith
+layout-number : {bytes : List ℕ} {work number : ℕ} → LayoutFault bytes work number → (1 ≤ number) × (number ≤ 4)
+layout-number (wrongLength f) = (omega arith, omega arith)
+layout-number (notMarked r f) = (omega arith, omega arith)
+layout-number (disagreeing r m f) = (omega arith, omega arith)
+layout-number (shortWork T C L h k) = (omega arith, omega arith)
 
 row-number : {bytes : List ℕ} {n number : ℕ} → RowFault bytes n number → (5 ≤ number) × (number ≤ 7)
 row-number (broken f) = (omega arith, omega arith)
 row-number (repeated g r) = (omega arith, omega arith)
 row-number (large g f s) = (omega arith, omega arith)
 
-line-number : {bytes : List ℕ} {T C n number : ℕ} → LineFault bytes T C n number → 8 ≤ number
-line-number (misfit f) = omega arith
-line-number (noInstance ok f) = omega arith
+line-number : {bytes : List ℕ} {T C n number : ℕ} → LineFault bytes T C n number → (9 ≤ number) × (number ≤ 10)
+line-number (misfit f) = (omega arith, omega arith)
+line-number (noInstance ok f) = (omega arith, omega arith)
+
+-- the numbers of admission
+pub fault-number : {bytes : List ℕ} {work number place : ℕ} → FirstFault bytes work number place → (1 ≤ number) × (number ≤ 10)
+fault-number (inLayout f) = (layout-number f .0, omega (arith, layout-number f .1))
+fault-number (inTerms T C L laid room f) = (omega (arith, row-number (f .fault) .0), omega (arith, row-number (f .fault) .1))
+fault-number (inContexts T C L laid room terms f) = (omega arith, omega arith)
+fault-number (inLines T C L t room f) = (omega (arith, line-number (f .fault) .0), line-number (f .fault) .1)
 
 module _ (bytes : List ℕ) (before : List ℕ) where
   module _ {T C L : ℕ} (laid : LaidOut bytes T C L) (room : T ≤ length before) where

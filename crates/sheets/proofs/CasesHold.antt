@@ -9,9 +9,9 @@ use Rattle.terms.specs.Table.{usedLimit, limit}
 use Rattle.terms.specs.Sizes.{rowOf, fitsRow, holdsRow, repeatedBelow, sumTo, rowSize, sizeAnswer, rowAnswer, checkFrom, checkTerms}
 use Rattle.rules.specs.RuleTable.{formOf, premiseCount}
 use Rattle.rules.specs.Decision.{instance?}
-use Rattle.rules.specs.Contexts.{parentOf, typeOf, contextTo, context, contextFits, holdsContext, heldWithin, repeatedContext, rightContext, checkContextsFrom, checkContexts}
+use Rattle.rules.specs.Contexts.{parentOf, typeOf, contextTo, context, contextFits, holdsContext, repeatedWithin, repeatedContext, rightContext, checkContextsFrom, checkContexts}
 use Rattle.rules.specs.Stated.{stated, judgmentOf as plainJudgment}
-use Rattle.sheets.specs.Layout.{contextsIn, linesIn, trailerWord, trailerOf, lengthFits, markFits, limitsFit, distancesFit, trailerAnswer, layoutOf}
+use Rattle.sheets.specs.Layout.{contextsIn, linesIn, trailerWord, trailerOf, lengthFits, markFits, limitsFit, distancesFit, countsFit, trailerAnswer, layoutOf}
 use Rattle.sheets.specs.Lines.{lineWord, lineOf, judgmentOf, premisesOf, citedBy, below, subjectsFit, premisesFit, ruleFits, numbersFit, lineFits, lineAt, statedAt, lineFollows?, checkLinesFrom, checkLines}
 use Rattle.sheets.specs.Admission.{afterLines, afterContexts, afterTerms, afterLayout, admitOf, workFrom, workAfter}
 use Rattle.sheets.specs.Accepted.{listed}
@@ -22,8 +22,8 @@ pub cases-hold : map answered cases ≡ map expected cases
 unfolding tagOf arity used shape wordAt word tag termTo term usedLimit limit
     rowOf fitsRow holdsRow repeatedBelow sumTo rowSize sizeAnswer rowAnswer checkFrom checkTerms
     formOf premiseCount instance? stated plainJudgment
-    parentOf typeOf contextTo context contextFits holdsContext heldWithin repeatedContext rightContext checkContextsFrom checkContexts
-    contextsIn linesIn trailerWord trailerOf lengthFits markFits limitsFit distancesFit trailerAnswer layoutOf
+    parentOf typeOf contextTo context contextFits holdsContext repeatedWithin repeatedContext rightContext checkContextsFrom checkContexts
+    contextsIn linesIn trailerWord trailerOf lengthFits markFits limitsFit distancesFit countsFit trailerAnswer layoutOf
     lineWord lineOf judgmentOf premisesOf citedBy below subjectsFit premisesFit ruleFits numbersFit lineFits lineAt statedAt lineFollows? checkLinesFrom checkLines
     afterLines afterContexts afterTerms afterLayout admitOf workFrom workAfter
     listed uses firstUseFrom firstUse newLength afterUse afterLine withdrawAfter withdrawOf lowerPremise lowered trailerLoses oldPlace newWord sheetWithout withoutLine outFrom outAfter

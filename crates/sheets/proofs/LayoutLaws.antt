@@ -16,7 +16,7 @@ use Rattle.terms.proofs.Tests.{refuted, decides-both}
 use Rattle.sheets.specs.declared.layout.Trailer.{Trailer}
 use Rattle.sheets.specs.declared.layout.Layout.{Layout}
 use Rattle.sheets.specs.declared.layout.Layout.the-variants.{Counted, Wrong}
-use Rattle.sheets.specs.Layout.{trailerWord, trailerOf, toLines, toContexts, toTerms, lengthFits, markFits, limitsFit, distancesFit, trailerAnswer, layoutOf}
+use Rattle.sheets.specs.Layout.{trailerWord, trailerOf, toLines, toContexts, toTerms, lengthFits, markFits, limitsFit, distancesFit, countsFit, trailerAnswer, layoutOf}
 use Rattle.sheets.specs.Good.{trailerFor, LaidOut, RightLength, Marked, LayoutFault, wrongLength, notMarked, disagreeing, shortWork}
 use Rattle.sheets.proofs.TestLaws.{either, refutes, says-le, says-eq}
 
@@ -60,6 +60,10 @@ distances-say t n =
     (says-eq (t .first) _) (says-eq (t .second) _)) (says-eq (t .third) _))
     (says-eq n _)
 
+pub counts-say : (t : Trailer) (n : ℕ) → Decides (countsFit t n) (Limited t × Agreeing t n)
+unfolding countsFit
+counts-say t n = decides-both (limitsFit t) (distancesFit t n) (limits-say t) (distances-say t n)
+
 -- `read_trailer`: the words are read from the end of the sheet, as a part of it
 module _ (bytes : List ℕ) where
   abbrev ending : List ℕ
@@ -92,23 +96,18 @@ module _ (t : Trailer) (n work : ℕ) where
   trailer-2 e = rw (e, trailerAnswer)
 
   module _ (m : markFits t ≡ true) where
-    pub trailer-limits : limitsFit t ≡ false → trailerAnswer t n work ≡ Wrong 3
+    pub trailer-3 : countsFit t n ≡ false → trailerAnswer t n work ≡ Wrong 3
     unfolding trailerAnswer
-    trailer-limits e = rw (m, e, trailerAnswer)
+    trailer-3 e = rw (m, e, trailerAnswer)
 
-    module _ (l : limitsFit t ≡ true) where
-      pub trailer-distances : distancesFit t n ≡ false → trailerAnswer t n work ≡ Wrong 3
+    module _ (l : countsFit t n ≡ true) where
+      pub trailer-4 : work < t .terms → trailerAnswer t n work ≡ Wrong 4
       unfolding trailerAnswer
-      trailer-distances e = rw (m, l, e, trailerAnswer)
+      trailer-4 h = rw (m, l, lt-leb (t .terms) work h, trailerAnswer)
 
-      module _ (d : distancesFit t n ≡ true) where
-        pub trailer-4 : work < t .terms → trailerAnswer t n work ≡ Wrong 4
-        unfolding trailerAnswer
-        trailer-4 h = rw (m, l, d, lt-leb (t .terms) work h, trailerAnswer)
-
-        pub trailer-counted : t .terms ≤ work → trailerAnswer t n work ≡ Counted (t .terms) (t .contexts) (t .lines)
-        unfolding trailerAnswer
-        trailer-counted h = rw (m, l, d, le-leb (t .terms) work h, trailerAnswer)
+      pub trailer-counted : t .terms ≤ work → trailerAnswer t n work ≡ Counted (t .terms) (t .contexts) (t .lines)
+      unfolding trailerAnswer
+      trailer-counted h = rw (m, l, le-leb (t .terms) work h, trailerAnswer)
 
 module _ (bytes : List ℕ) (work : ℕ) where
   pub layout-1 : lengthFits (length bytes) ≡ false → layoutOf bytes work ≡ Wrong 1
@@ -171,29 +170,24 @@ module _ (bytes : List ℕ) where
       means e a = subst LayoutMeans (sym (layout-rest bytes work h ∙ e)) a
 
       module _ (m : markFits (trailerOf bytes) ≡ true) where
-        disagree : (Limited (trailerOf bytes) → Agreeing (trailerOf bytes) (length bytes) → ⊥) → LayoutMeans (Wrong 3)
-        disagree no-way =
-            wrong (disagreeing (length-says _ .0 h) (mark-says _ .0 m) (λ T C L laid. let p = laid-passes T C L laid in no-way (p .2) (p .3)))
+        at-work : countsFit (trailerOf bytes) (length bytes) ≡ true → Either (leb (trailerOf bytes .terms) work) → LayoutMeans (layoutOf bytes work)
+        at-work l (inl e) =
+            let k = leb-true _ _ e in
+            let c = counts-say _ _ .0 l in
+            means (trailer-counted _ _ _ m l k) (counted (passes-laid (mark-says _ .0 m) (c .0) (c .1)) k)
+        at-work l (inr e) =
+            let k = leb-false _ _ e in
+            let c = counts-say _ _ .0 l in
+            means (trailer-4 _ _ _ m l k) (wrong (shortWork _ _ _ (passes-laid (mark-says _ .0 m) (c .0) (c .1)) k))
 
-        module _ (l : limitsFit (trailerOf bytes) ≡ true) where
-          at-work : distancesFit (trailerOf bytes) (length bytes) ≡ true → Either (leb (trailerOf bytes .terms) work) → LayoutMeans (layoutOf bytes work)
-          at-work d (inl e) =
-              let k = leb-true _ _ e in
-              means (trailer-counted _ _ _ m l d k) (counted (passes-laid (mark-says _ .0 m) (limits-say _ .0 l) (distances-say _ _ .0 d)) k)
-          at-work d (inr e) =
-              let k = leb-false _ _ e in
-              means (trailer-4 _ _ _ m l d k) (wrong (shortWork _ _ _ (passes-laid (mark-says _ .0 m) (limits-say _ .0 l) (distances-say _ _ .0 d)) k))
-
-          at-distances : Either (distancesFit (trailerOf bytes) (length bytes)) → LayoutMeans (layoutOf bytes work)
-          at-distances (inl d) = at-work d (either _)
-          at-distances (inr d) = means (trailer-distances _ _ _ m l d) (disagree (λ x y. refuted _ (distances-say _ _) d y))
-
-        at-limits : Either (limitsFit (trailerOf bytes)) → LayoutMeans (layoutOf bytes work)
-        at-limits (inl l) = at-distances l (either _)
-        at-limits (inr l) = means (trailer-limits _ _ _ m l) (disagree (λ x y. refuted _ (limits-say _) l x))
+        at-counts : Either (countsFit (trailerOf bytes) (length bytes)) → LayoutMeans (layoutOf bytes work)
+        at-counts (inl l) = at-work l (either _)
+        at-counts (inr l) =
+            means (trailer-3 _ _ _ m l)
+            (wrong (disagreeing (length-says _ .0 h) (mark-says _ .0 m) (λ T C L laid. let p = laid-passes T C L laid in refuted _ (counts-say _ _) l (p .2, p .3))))
 
       at-mark : Either (markFits (trailerOf bytes)) → LayoutMeans (layoutOf bytes work)
-      at-mark (inl m) = at-limits m (either _)
+      at-mark (inl m) = at-counts m (either _)
       at-mark (inr m) = means (trailer-2 _ _ _ m) (wrong (notMarked (length-says _ .0 h) (refuted _ (mark-says _) m)))
 
     at-length : Either (lengthFits (length bytes)) → LayoutMeans (layoutOf bytes work)
@@ -215,7 +209,7 @@ module _ (bytes : List ℕ) where
         to h k =
             let p = laid-passes T C L h in
             layout-rest bytes work (length-says _ .1 (p .0))
-            ∙ trailer-counted _ _ _ (mark-says _ .1 (p .1)) (limits-say _ .1 (p .2)) (distances-say _ _ .1 (p .3)) (subst (λ t. t .terms ≤ work) (sym (h .trailer)) k)
+            ∙ trailer-counted _ _ _ (mark-says _ .1 (p .1)) (counts-say _ _ .1 (p .2, p .3)) (subst (λ t. t .terms ≤ work) (sym (h .trailer)) k)
             ∙ ap (λ t. Counted (t .terms) (t .contexts) (t .lines)) (h .trailer)
 
     -- and a number exactly if its check is the first to fail
@@ -226,17 +220,14 @@ module _ (bytes : List ℕ) where
         from : {k : ℕ} → LayoutMeans (Wrong k) → LayoutFault bytes work k
         from (wrong f) = f
 
-        counts : RightLength bytes → Marked (trailerOf bytes) → ((T C L : ℕ) → LaidOut bytes T C L → ⊥)
-            → Either (limitsFit (trailerOf bytes)) → Either (distancesFit (trailerOf bytes) (length bytes)) → trailerAnswer (trailerOf bytes) (length bytes) work ≡ Wrong 3
-        counts r m f (inl l) (inl d) = absurd (f _ _ _ (passes-laid m (limits-say _ .0 l) (distances-say _ _ .0 d)))
-        counts r m f (inl l) (inr d) = trailer-distances _ _ _ (mark-says _ .1 m) l d
-        counts r m f (inr l) d = trailer-limits _ _ _ (mark-says _ .1 m) l
+        disagree : Marked (trailerOf bytes) → ((T C L : ℕ) → LaidOut bytes T C L → ⊥) → trailerAnswer (trailerOf bytes) (length bytes) work ≡ Wrong 3
+        disagree m f = trailer-3 _ _ _ (mark-says _ .1 m) (refutes _ (counts-say _ _) (λ c. f _ _ _ (passes-laid m (c .0) (c .1))))
 
         to : {k : ℕ} → LayoutFault bytes work k → layoutOf bytes work ≡ Wrong k
         to (wrongLength f) = layout-1 bytes work (refutes _ (length-says _) f)
         to (notMarked r f) = layout-rest bytes work (length-says _ .1 r) ∙ trailer-2 _ _ _ (refutes _ (mark-says _) f)
-        to (disagreeing r m f) = layout-rest bytes work (length-says _ .1 r) ∙ counts r m f (either _) (either _)
+        to (disagreeing r m f) = layout-rest bytes work (length-says _ .1 r) ∙ disagree m f
         to (shortWork T C L h k) =
             let p = laid-passes T C L h in
             layout-rest bytes work (length-says _ .1 (p .0))
-            ∙ trailer-4 _ _ _ (mark-says _ .1 (p .1)) (limits-say _ .1 (p .2)) (distances-say _ _ .1 (p .3)) (subst (λ t. work < t .terms) (sym (h .trailer)) k)
+            ∙ trailer-4 _ _ _ (mark-says _ .1 (p .1)) (counts-say _ _ .1 (p .2, p .3)) (subst (λ t. work < t .terms) (sym (h .trailer)) k)

@@ -12,3 +12,4 @@ pub mod AcceptedLaws
 pub mod SheetWithout
 pub mod WithdrawalLaws
 pub mod WithdrawalAnswers
+pub mod AnsweredLaws

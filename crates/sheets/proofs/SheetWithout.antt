@@ -15,7 +15,7 @@ use Rattle.terms.specs.Words.{wordAt}
 use Rattle.terms.specs.Rows.{word, tag, term}
 use Rattle.terms.specs.Table.{limit, GoodRow, TermTable}
 use Rattle.terms.proofs.TermLaws.{downward, same-term}
-use Rattle.rules.specs.Judgment.{Context, Judgment}
+use Rattle.rules.specs.Judgment.{Context}
 use Rattle.rules.specs.Instance.{Instance}
 use Rattle.rules.specs.RuleTable.{premiseCount}
 use Rattle.rules.specs.Contexts.{parentOf, typeOf, context, ContextTable}

@@ -27,7 +27,7 @@ use Rattle.sheets.specs.Lines.{lineOf, premisesOf}
 use Rattle.sheets.specs.Admission.{admitOf}
 use Rattle.sheets.specs.Good.{trailerFor, Good}
 use Rattle.sheets.specs.Accepted.{IsAccepted, statedBy}
-use Rattle.sheets.specs.Withdrawal.{without, uses, Uses, firstUseFrom, firstUse, newLength, afterUse, afterLine, withdrawAfter, withdrawOf, sheetWithout, withoutLine, outFrom, outAfter, LowestUse, Unused, WithdrawalMeans, missing, used, short, written, Withdrawn}
+use Rattle.sheets.specs.Withdrawal.{uses, Uses, firstUseFrom, firstUse, newLength, afterUse, afterLine, withdrawAfter, withdrawOf, sheetWithout, withoutLine, outFrom, outAfter, LowestUse, Unused, WithdrawalMeans, missing, used, short, written, Withdrawn}
 use Rattle.sheets.proofs.TestLaws.{either, says-lt, says-eq}
 use Rattle.sheets.proofs.AdmissionLaws.{accepted-is}
 use Rattle.sheets.proofs.AcceptedLaws.{good-accepted}

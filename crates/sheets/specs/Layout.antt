@@ -63,20 +63,19 @@ distancesFit t n =
     eqb (t .first) (toTerms (t .terms) (t .contexts) (t .lines)) && eqb (t .second) (toContexts (t .contexts) (t .lines))
     && eqb (t .third) (toLines (t .lines)) && eqb n (toTerms (t .terms) (t .contexts) (t .lines) + 16)
 
+-- number 3
+unfoldable pub countsFit : Trailer → ℕ → Bool
+countsFit t n = limitsFit t && distancesFit t n
+
 -- numbers 2, 3 and 4 of a trailer, for a length and a number of words in the work buffer
 unfoldable pub trailerAnswer : Trailer → ℕ → ℕ → Layout
 trailerAnswer t n work =
     elim (markFits t) [
       | false ↦ Wrong 2
       | true ↦
-          elim (limitsFit t) [
+          elim (countsFit t n) [
             | false ↦ Wrong 3
-            | true ↦
-                elim (distancesFit t n) [
-                  | false ↦ Wrong 3
-                  | true ↦
-                      elim (leb (t .terms) work) [ false ↦ Wrong 4 | true ↦ Counted (t .terms) (t .contexts) (t .lines) ]
-                ]
+            | true ↦ elim (leb (t .terms) work) [ false ↦ Wrong 4 | true ↦ Counted (t .terms) (t .contexts) (t .lines) ]
           ]
     ]
 

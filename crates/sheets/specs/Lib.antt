@@ -5,4 +5,5 @@ pub mod Finding
 pub mod Good
 pub mod Accepted
 pub mod Withdrawal
+pub mod Answered
 pub mod Cases

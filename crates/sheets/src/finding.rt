@@ -43,7 +43,7 @@ fn has_numbers(j: LineJudgment, w: Wanted) -> bool
 }
 
 // The lowest of the first `count` lines that has these five numbers.
-pub fn search_lines(lines: &[u8], count: usize, wanted: Wanted) -> Found
+fn search_lines(lines: &[u8], count: usize, wanted: Wanted) -> Found
     requires { ⌜ 20 * count ≤ length (now lines) ⌝ }
     ensures { λ r. ⌜ r ≡ searchLines (now (lines .entry)) count wanted ⌝ }
 {

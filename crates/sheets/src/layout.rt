@@ -4,7 +4,7 @@ ghost use mathlib.Core.Path.{_≡_};
 ghost use mathlib.Core.Bool.{true};
 ghost use Prim.Native.Nat.{_≤_};
 ghost use lib.ListN.{length};
-ghost use Rattle.sheets.specs.Layout.{trailerOf, markFits, limitsFit, distancesFit, trailerAnswer, layoutOf};
+ghost use Rattle.sheets.specs.Layout.{trailerOf, markFits, limitsFit, distancesFit, countsFit, trailerAnswer, layoutOf};
 
 // The eight words of a trailer. The three distances go back from its first byte to the terms, the contexts and the lines.
 pub struct Trailer {
@@ -74,30 +74,35 @@ fn distances_fit(t: Trailer, n: usize) -> bool
     (t.first == terms) & (t.second == contexts + lines) & (t.third == lines) & (n == terms + 16)
 }
 
+// Number 3, for a sheet of `n` bytes.
+fn counts_fit(t: Trailer, n: usize) -> bool
+    ensures { λ r. ⌜ r ≡ countsFit t n ⌝ }
+{
+    if limits_fit(t) {
+        distances_fit(t, n)
+    } else {
+        false
+    }
+}
+
 // Numbers 2 to 4, for a sheet of `n` bytes and a work buffer of `work` words.
 fn trailer_answer(t: Trailer, n: usize, work: usize) -> Layout
     ensures { λ r. ⌜ r ≡ trailerAnswer t n work ⌝ }
 {
     if mark_fits(t) {
-        if limits_fit(t) {
-            if distances_fit(t, n) {
-                if work < t.terms {
-                    return Layout::Wrong { number: 4 };
-                }
-                Layout::Counted {
-                    terms: t.terms,
-                    contexts: t.contexts,
-                    lines: t.lines,
-                }
-            } else {
-                Layout::Wrong { number: 3 }
+        if counts_fit(t, n) {
+            if work < t.terms {
+                return Layout::Wrong { number: 4 };
             }
-        } else {
-            Layout::Wrong { number: 3 }
+            return Layout::Counted {
+                terms: t.terms,
+                contexts: t.contexts,
+                lines: t.lines,
+            };
         }
-    } else {
-        Layout::Wrong { number: 2 }
+        return Layout::Wrong { number: 3 };
     }
+    Layout::Wrong { number: 2 }
 }
 
 // The counts of a sheet, or the first of numbers 1 to 4 that is broken.

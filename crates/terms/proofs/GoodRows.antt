@@ -2,18 +2,18 @@
 -- Assumes nothing.
 use mathlib.Core.Path.{_≡_, subst}
 use mathlib.Core.Bool.{Bool, true, _&&_}
-use mathlib.Core.Logic.{_≢_, _↔_}
+use mathlib.Core.Logic.{_↔_}
 use mathlib.Core.List.{List}
 use Prim.Native.Nat.{ℕ, _≤_, _<_}
 use native.Mathlib.Omega.{arith}
 use lib.Dec.{leb, ltb}
 use borrow.Author.Tests.{leb-true, ltb-true, le-leb, lt-ltb, lt-leb}
-use Rattle.terms.specs.Tag.{none, used}
+use Rattle.terms.specs.Tag.{used}
 use Rattle.terms.specs.Rows.{word, tag}
 use Rattle.terms.specs.Table.{GoodRow, limit}
 use Rattle.terms.specs.Sizes.{rowOf, fitsRow}
 use Rattle.terms.proofs.Tables.{and-left, and-right}
-use Rattle.terms.proofs.Shape.{AtChildren, each, tagOf-known}
+use Rattle.terms.proofs.Shape.{AtChildren, each}
 use Rattle.terms.proofs.TagTables.{child-limit, arity-most}
 
 -- six tests joined
@@ -53,10 +53,6 @@ module _ (bytes : List ℕ) (n : ℕ) where
       joined .0 (le-leb _ _ (g .low), le-leb _ _ (g .high), at 1 (omega arith) (omega arith), at 2 (omega arith) (omega arith), at 3 (omega arith) (omega arith), at 4 (omega arith) (omega arith))
 
   module _ (g : GoodRow bytes n) where
-    pub good-known : tag bytes n ≢ none
-    unfolding tag
-    good-known = tagOf-known (word bytes n 0) (g .low) (g .high)
-
     -- a child's number is below its row's
     pub good-child : AtChildren (tag bytes n) (λ j. word bytes n j < n)
     good-child j low high = subst (λ m. word bytes n j < m) (child-limit (tag bytes n) n j low high) (g .operands j low (omega (arith, arity-most (tag bytes n))))

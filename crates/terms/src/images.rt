@@ -1,6 +1,6 @@
 // Tests that one row spells the shift, or the substitution, of another. Both terms are walked in step, and the
-// walk ends at the first difference: at most 65,535 nodes are visited, at most as deep as there are rows. What held
-// is remembered for the rest of the walk, since rows share subterms.
+// walk ends at the first difference: at most 65,535 nodes are visited, at most as deep as there are rows. Some of
+// what held is remembered on the way, since rows share subterms.
 use crate::held::hold;
 use crate::held::is_held;
 use crate::nodes::Node;

@@ -3,7 +3,8 @@
 use answers::numbers::Reading;
 use answers::numbers::read_number;
 use answers::runs::print_withdrawal;
-use answers::runs::withdraw_input;
+use answers::runs::read_sheet;
+use answers::runs::withdraw_sheet;
 use libc::STDERR_FILENO;
 use libc::STDIN_FILENO;
 use sheets::withdrawal::Withdrawal;
@@ -33,9 +34,9 @@ fn make_file(path: &[u8], bytes: &[u8]) -> bool {
 }
 
 // Withdraws a line, and makes the new file before it says so.
-fn withdraw_to(line: usize, path: &[u8]) {
-    let mut out = [0u8; 52241];
-    let answer = withdraw_input(STDIN_FILENO, line, &mut out);
+fn withdraw_to(sheet: &[u8], line: usize, path: &[u8]) {
+    let mut out = [0u8; 52240];
+    let answer = withdraw_sheet(sheet, line, &mut out);
     if let Withdrawal::Written { length } = answer {
         if !make_file(path, &out[..length]) {
             return;
@@ -44,12 +45,24 @@ fn withdraw_to(line: usize, path: &[u8]) {
     print_withdrawal(answer);
 }
 
+// The same, for the sheet on standard input.
+fn withdraw_input(line: usize, path: &[u8]) {
+    let mut sheet = [0u8; 52241];
+    let input = read_sheet(STDIN_FILENO, &mut sheet);
+    let length = input.length;
+    if input.whole {
+        withdraw_to(&sheet[..length], line, path);
+    } else {
+        os::fail(b"reading the sheet");
+    }
+}
+
 fn main() {
     let mut path = [0u8; 4096];
     let length = os::arg(2, &mut path);
     if (os::arg_count() == 3) & (0 < length) {
         if let Reading::Number(line) = line_argument() {
-            withdraw_to(line, &path[..length]);
+            withdraw_input(line, &path[..length]);
             return;
         }
     }

@@ -2,27 +2,40 @@
 
 use crate::coverage::Coverage;
 use crate::random::Random;
-use crate::reference::layout::{word, Counts, LINE_ROW, MAX_TERMS, TRAILER};
+use crate::reference::layout::{Counts, LINE_ROW, MAX_TERMS, TRAILER};
 use crate::reference::reading::Reading;
 use crate::reference::Answer;
 
 /// The three calls on a sheet.
 #[derive(Clone, Copy, Debug)]
-enum Call {
+pub enum Call {
     Admit,
     Find([u32; 5]),
     Withdraw(usize),
 }
 
-/// What a call answered and left in its buffers.
-#[derive(PartialEq, Eq)]
-struct Outcome {
-    answer: Answer,
-    work: Vec<u32>,
-    out: Vec<u8>,
+/// The buffers that a call is given.
+#[derive(Clone, PartialEq, Eq)]
+pub struct Buffers {
+    pub work: Vec<u32>,
+    pub out: Vec<u8>,
 }
 
-pub struct Comparer<'a> {
+/// What a call answered and left in its buffers.
+#[derive(PartialEq, Eq)]
+pub struct Outcome {
+    pub answer: Answer,
+    pub buffers: Buffers,
+}
+
+impl Outcome {
+    /// The sheet that a withdrawal wrote.
+    pub fn written(&self) -> &[u8] {
+        &self.buffers.out[..self.answer.values[0]]
+    }
+}
+
+struct Comparer<'a> {
     sheet: &'a [u8],
     reading: &'a Reading,
     random: &'a mut Random,
@@ -99,11 +112,19 @@ impl Comparer<'_> {
     }
 
     fn compare_on_accepted(&mut self, counts: Counts) {
+        self.compare_searches(counts);
+        self.compare_withdrawals(counts);
+    }
+
+    fn compare_searches(&mut self, counts: Counts) {
         for _ in 0..2 {
             let wanted = self.wanted(counts);
             let length = self.work_length();
             self.compare_call(Call::Find(wanted), length, 0);
         }
+    }
+
+    fn compare_withdrawals(&mut self, counts: Counts) {
         for _ in 0..3 {
             let line = self.line(counts);
             let length = self.work_length();
@@ -135,8 +156,7 @@ impl Comparer<'_> {
     fn wanted(&mut self, counts: Counts) -> [u32; 5] {
         let mut wanted = [0; 5];
         if counts.lines > 0 {
-            let at = counts.line_at(self.random.below(counts.lines));
-            wanted = [0, 2, 3, 4, 5].map(|place| u32::from(word(self.sheet, at + 2 * place)));
+            wanted = counts.judgment(self.sheet, self.random.below(counts.lines));
         }
         let place = self.random.below(5);
         match self.random.below(6) {
@@ -182,54 +202,60 @@ impl Comparer<'_> {
             .collect();
         let fill = self.random.word();
         let out: Vec<u8> = (0..out_length).map(|i| (fill >> (i % 57)) as u8).collect();
-        let wanted = by_reference(self.reading, self.sheet, call, work.clone(), out.clone());
-        let got = by_library(self.sheet, call, work, out);
+        let (wanted, difference) = on_both(self.reading, self.sheet, call, Buffers { work, out });
         self.coverage.add_answer(wanted.answer.number);
-        if wanted != got {
-            let text = difference(call, &wanted, &got);
-            self.differences.push(text);
-        }
+        self.differences.extend(difference);
         if matches!(call, Call::Withdraw(_)) && wanted.answer.number == 0 {
-            self.withdrawn = Some(wanted.out[..wanted.answer.values[0]].to_vec());
+            self.withdrawn = Some(wanted.written().to_vec());
         }
     }
 }
 
-fn by_reference(
+/// Calls both with equal arguments: what the reference leaves, and as text how the library differs, if it does.
+pub fn on_both(
     reading: &Reading,
     sheet: &[u8],
     call: Call,
-    mut work: Vec<u32>,
-    mut out: Vec<u8>,
-) -> Outcome {
-    let answer = match call {
-        Call::Admit => reading.admit(&mut work),
-        Call::Find(wanted) => reading.find(sheet, &mut work, wanted),
-        Call::Withdraw(line) => reading.withdraw(sheet, line, &mut work, &mut out),
-    };
-    Outcome { answer, work, out }
+    buffers: Buffers,
+) -> (Outcome, Option<String>) {
+    let wanted = by_reference(reading, sheet, call, buffers.clone());
+    let got = by_library(sheet, call, buffers);
+    let text = (wanted != got).then(|| difference(call, &wanted, &got));
+    (wanted, text)
 }
 
-fn by_library(sheet: &[u8], call: Call, mut work: Vec<u32>, mut out: Vec<u8>) -> Outcome {
+fn by_reference(reading: &Reading, sheet: &[u8], call: Call, mut buffers: Buffers) -> Outcome {
+    let Buffers { work, out } = &mut buffers;
     let answer = match call {
-        Call::Admit => mengyubad::admit(sheet, &mut work),
-        Call::Find(wanted) => mengyubad::find(sheet, &mut work, wanted),
-        Call::Withdraw(line) => mengyubad::withdraw(sheet, line, &mut work, &mut out),
+        Call::Admit => reading.admit(work),
+        Call::Find(wanted) => reading.find(sheet, work, wanted),
+        Call::Withdraw(line) => reading.withdraw(sheet, line, work, out),
+    };
+    Outcome { answer, buffers }
+}
+
+fn by_library(sheet: &[u8], call: Call, mut buffers: Buffers) -> Outcome {
+    let Buffers { work, out } = &mut buffers;
+    let answer = match call {
+        Call::Admit => mengyubad::admit(sheet, work),
+        Call::Find(wanted) => mengyubad::find(sheet, work, wanted),
+        Call::Withdraw(line) => mengyubad::withdraw(sheet, line, work, out),
     };
     let answer = Answer {
         number: answer.number,
         values: answer.values,
     };
-    Outcome { answer, work, out }
+    Outcome { answer, buffers }
 }
 
 fn difference(call: Call, wanted: &Outcome, got: &Outcome) -> String {
-    let word = first_difference(&wanted.work, &got.work);
-    let byte = first_difference(&wanted.out, &got.out);
+    let (old, new) = (&wanted.buffers, &got.buffers);
+    let word = first_difference(&old.work, &new.work);
+    let byte = first_difference(&old.out, &new.out);
     format!(
         "{call:?} with {} work words and {} output bytes: reference {:?}, library {:?}, first work word that differs {word:?}, first output byte {byte:?}",
-        wanted.work.len(),
-        wanted.out.len(),
+        old.work.len(),
+        old.out.len(),
         wanted.answer,
         got.answer,
     )

@@ -96,21 +96,33 @@ impl Coverage {
     }
 }
 
-impl fmt::Display for Coverage {
-    fn fmt(&self, f: &mut fmt::Formatter) -> fmt::Result {
-        writeln!(f, "inputs {}, accepted {}", self.inputs, self.accepted)?;
-        writeln!(f, "calls compared {}", self.calls)?;
+/// The two tables.
+impl Coverage {
+    fn write_numbers(&self, f: &mut fmt::Formatter) -> fmt::Result {
         writeln!(f, "number  answers")?;
         for (number, count) in self.numbers.iter().enumerate() {
             writeln!(f, "{number:>6} {count:>8}")?;
         }
+        Ok(())
+    }
+
+    fn write_rules(&self, f: &mut fmt::Formatter) -> fmt::Result {
         writeln!(f, "  rule accepted  refused")?;
         for rule in 1..44 {
             let (yes, no) = (self.accepted_lines[rule], self.refused_lines[rule]);
             writeln!(f, "{rule:>6} {yes:>8} {no:>8}")?;
         }
         let (yes, no) = (self.least_accepted(), self.least_refused());
-        writeln!(f, " least {yes:>8} {no:>8}")?;
+        writeln!(f, " least {yes:>8} {no:>8}")
+    }
+}
+
+impl fmt::Display for Coverage {
+    fn fmt(&self, f: &mut fmt::Formatter) -> fmt::Result {
+        writeln!(f, "inputs {}, accepted {}", self.inputs, self.accepted)?;
+        writeln!(f, "calls compared {}", self.calls)?;
+        self.write_numbers(f)?;
+        self.write_rules(f)?;
         writeln!(f, "differences {}", self.differences)
     }
 }

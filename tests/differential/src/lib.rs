@@ -7,4 +7,3 @@ pub mod inputs;
 pub mod mutate;
 pub mod random;
 pub mod reference;
-pub mod samples;

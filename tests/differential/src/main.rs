@@ -1,14 +1,12 @@
-//! `differential [--seed N] [--inputs N] [--samples DIR]`: compares the proved library with the reference on random sheets.
+//! `differential [--seed N] [--inputs N]`: compares the proved library with the reference on random sheets.
 
 use differential::compare::compare;
 use differential::coverage::Coverage;
 use differential::inputs::Inputs;
 use differential::random::Random;
-use differential::samples;
-use std::path::{Path, PathBuf};
 use std::process::ExitCode;
 
-const USAGE: &str = "usage: differential [--seed N] [--inputs N] [--samples DIR]";
+const USAGE: &str = "usage: differential [--seed N] [--inputs N]";
 
 /// Further differences are counted only.
 const MOST_REPORTED: u64 = 20;
@@ -16,14 +14,12 @@ const MOST_REPORTED: u64 = 20;
 struct Options {
     seed: u64,
     inputs: u64,
-    samples: Option<PathBuf>,
 }
 
 fn options() -> Option<Options> {
     let mut options = Options {
         seed: 1,
         inputs: 100_000,
-        samples: None,
     };
     let mut arguments = std::env::args().skip(1);
     while let Some(name) = arguments.next() {
@@ -31,7 +27,6 @@ fn options() -> Option<Options> {
         match name.as_str() {
             "--seed" => options.seed = value.parse().ok()?,
             "--inputs" => options.inputs = value.parse().ok()?,
-            "--samples" => options.samples = Some(PathBuf::from(value)),
             _ => return None,
         }
     }
@@ -43,49 +38,24 @@ fn main() -> ExitCode {
         eprintln!("{USAGE}");
         return ExitCode::from(2);
     };
-    let samples_fit = options.samples.as_deref().is_none_or(run_samples);
     let coverage = run(&options);
     print!("{coverage}");
     let missed = coverage.missed();
     for goal in &missed {
         println!("missed: {goal}");
     }
-    if samples_fit && missed.is_empty() && coverage.differences == 0 {
+    if missed.is_empty() && coverage.differences == 0 {
         ExitCode::SUCCESS
     } else {
         ExitCode::FAILURE
     }
 }
 
-/// Compares the reference with the samples' answers.
-fn run_samples(folder: &Path) -> bool {
-    let outcome = match samples::run(folder) {
-        Ok(outcome) => outcome,
-        Err(error) => {
-            eprintln!("{}: {error}", folder.display());
-            return false;
-        }
-    };
-    for wrong in &outcome.wrong {
-        eprintln!("{wrong}");
-    }
-    let (compared, wrong) = (outcome.compared, outcome.wrong.len());
-    println!("sample answers compared {compared}, wrong {wrong}");
-    outcome.wrong.is_empty()
-}
-
-/// Compares the library with the reference on the samples, if any, and on random sheets.
+/// Compares the library with the reference on random sheets.
 fn run(options: &Options) -> Coverage {
     let mut coverage = Coverage::default();
     let mut inputs = Inputs::new(options.seed);
     let mut random = Random::new(options.seed ^ 0x5EED);
-    let folder = options.samples.as_deref();
-    for sheet in folder
-        .map_or(Ok(vec![]), samples::sheets)
-        .unwrap_or_default()
-    {
-        compare_one("sample", &sheet, &mut random, &mut coverage);
-    }
     for number in 0..options.inputs {
         let sheet = inputs.next(&coverage.refused_lines);
         let name = format!("seed {}, input {number}", options.seed);

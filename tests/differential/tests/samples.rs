@@ -1,8 +1,11 @@
-//! The sample sheets that the repository keeps, through the reference.
+//! The sample sheets that the repository keeps, through the reference and the proved library.
 
-use differential::reference::{self, layout::MAX_TERMS, Answer};
+use differential::compare::{on_both, Buffers, Call, Outcome};
+use differential::reference::layout::{LINE_ROW, MAX_TERMS};
+use differential::reference::reading::Reading;
+use differential::reference::Answer;
 use std::fs;
-use std::path::PathBuf;
+use std::path::{Path, PathBuf};
 
 fn folder() -> PathBuf {
     PathBuf::from(env!("CARGO_MANIFEST_DIR")).join("../../crates/samples")
@@ -27,44 +30,63 @@ fn sheet(name: &str) -> Vec<u8> {
     fs::read(folder().join("data").join(name)).expect("a readable sheet")
 }
 
-fn work() -> Vec<u32> {
-    vec![0; MAX_TERMS]
+/// All sample sheets, with their paths.
+fn sheets() -> Vec<(PathBuf, Vec<u8>)> {
+    let entries = fs::read_dir(folder().join("data")).expect("the folder of samples");
+    let paths = entries.map(|entry| entry.expect("an entry").path());
+    let read = |path: PathBuf| {
+        let sheet = fs::read(&path).expect("a readable sheet");
+        (path, sheet)
+    };
+    let named = |path: &PathBuf| path.extension().is_some_and(|end| end == "sheet");
+    paths.filter(named).map(read).collect()
+}
+
+/// What a call leaves, with a full work buffer and room for the sheet in the output.
+fn full(sheet: &[u8], call: Call) -> Outcome {
+    let buffers = Buffers {
+        work: vec![0; MAX_TERMS],
+        out: vec![0; sheet.len()],
+    };
+    let (outcome, difference) = on_both(&Reading::of(sheet), sheet, call, buffers);
+    assert_eq!(difference, None);
+    outcome
 }
 
 fn admissions(text: &mut Vec<String>) {
     for row in rows("admit.list") {
-        let answer = reference::admit(&sheet(&row[0]), &mut work());
-        text.push(format!("{} {}", row[0], printed(answer, 3)));
+        let admitted = full(&sheet(&row[0]), Call::Admit);
+        text.push(format!("{} {}", row[0], printed(admitted.answer, 3)));
     }
 }
 
 fn searches(text: &mut Vec<String>) {
     for row in rows("find.list") {
         let wanted = [1, 2, 3, 4, 5].map(|place: usize| row[place].parse().expect("a number"));
-        let answer = reference::find(&sheet(&row[0]), &mut work(), wanted);
-        text.push(format!("{} {}", row.join(" "), printed(answer, 1)));
+        let found = full(&sheet(&row[0]), Call::Find(wanted));
+        text.push(format!("{} {}", row.join(" "), printed(found.answer, 1)));
     }
 }
 
 fn withdrawals(text: &mut Vec<String>) {
     for row in rows("withdraw.list") {
-        let sheet = sheet(&row[0]);
         let line = row[1].parse().expect("a number");
-        let mut out = vec![0; sheet.len()];
-        let answer = reference::withdraw(&sheet, line, &mut work(), &mut out);
-        text.push(format!("{} {}", row.join(" "), printed(answer, 1)));
-        if answer.number == 0 {
-            let again = reference::admit(&out[..answer.values[0]], &mut work());
-            text.push(printed(again, 3));
+        let withdrawn = full(&sheet(&row[0]), Call::Withdraw(line));
+        text.push(format!(
+            "{} {}",
+            row.join(" "),
+            printed(withdrawn.answer, 1)
+        ));
+        if withdrawn.answer.number == 0 {
+            let again = full(withdrawn.written(), Call::Admit);
+            text.push(printed(again.answer, 3));
         }
     }
 }
 
 #[test]
 fn answers_are_those_of_the_samples() {
-    let Ok(wanted) = fs::read_to_string(folder().join("stdout")) else {
-        return;
-    };
+    let wanted = fs::read_to_string(folder().join("stdout")).expect("the list of answers");
     let mut text = Vec::new();
     admissions(&mut text);
     searches(&mut text);
@@ -73,5 +95,62 @@ fn answers_are_those_of_the_samples() {
     assert_eq!(text.len(), wanted.len());
     for (got, wanted) in text.iter().zip(wanted) {
         assert_eq!(got, wanted);
+    }
+}
+
+/// One sheet, with what the reference reads in it.
+struct Sample<'a> {
+    path: &'a Path,
+    sheet: &'a [u8],
+    reading: Reading,
+}
+
+impl Sample<'_> {
+    fn compare(&self, call: Call, words: usize, room: usize) {
+        let buffers = Buffers {
+            work: vec![0xA5A5_A5A5; words],
+            out: vec![0x5A; room],
+        };
+        let (_, difference) = on_both(&self.reading, self.sheet, call, buffers);
+        assert_eq!(difference, None, "{}", self.path.display());
+    }
+
+    /// Finds and withdraws a line, which may be one more than the sheet has.
+    fn compare_line(&self, line: usize, words: usize) {
+        let counts = self.reading.counts.filter(|counts| line < counts.lines);
+        let wanted = counts.map_or([0; 5], |counts| counts.judgment(self.sheet, line));
+        let length = self.sheet.len();
+        let enough = length.saturating_sub(LINE_ROW);
+        self.compare(Call::Find(wanted), words, 0);
+        self.compare(Call::Withdraw(line), words, length);
+        self.compare(Call::Withdraw(line), words + 1, enough);
+        self.compare(Call::Withdraw(line), words, enough.saturating_sub(1));
+    }
+
+    fn compare_all(&self) {
+        let (terms, lines) = self
+            .reading
+            .counts
+            .map_or((0, 0), |counts| (counts.terms, counts.lines));
+        self.compare(Call::Admit, terms, 0);
+        self.compare(Call::Admit, terms.saturating_sub(1), 0);
+        for line in 0..=lines {
+            self.compare_line(line, terms);
+        }
+    }
+}
+
+#[test]
+fn the_library_answers_as_the_reference_on_every_sample() {
+    let sheets = sheets();
+    assert!(!sheets.is_empty());
+    for (path, sheet) in &sheets {
+        let reading = Reading::of(sheet);
+        let sample = Sample {
+            path,
+            sheet,
+            reading,
+        };
+        sample.compare_all();
     }
 }

@@ -3,9 +3,6 @@ use Rattle.mengyubad.specs.Replies.{admissionReply}
 use borrow.Author.Needs.{needs}
 use Rattle.mengyubad.proofs.admission_reply.Statement.{statement}
 use Rattle.mengyubad.proofs.admission_reply.Tie as tie
-use Rattle.mengyubad.proofs.admission_reply.Reads as reads
-use Rattle.mengyubad.proofs.admission_reply.Lts as lts
-use Rattle.mengyubad.proofs.single.Reads as single-reads
 
 enum-known-answer : tie.Need-enum-known-answer
 enum-known-answer c = search needs

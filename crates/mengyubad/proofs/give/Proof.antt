@@ -3,8 +3,6 @@ use Rattle.mengyubad.proofs.ReplyLaws.{three-written}
 use borrow.Author.Needs.{needs}
 use Rattle.mengyubad.proofs.give.Statement.{statement}
 use Rattle.mengyubad.proofs.give.Tie as tie
-use Rattle.mengyubad.proofs.give.Reads as reads
-use Rattle.mengyubad.proofs.give.Lts as lts
 
 slice-write-values : tie.Need-slice-write-values
 slice-write-values c = search needs

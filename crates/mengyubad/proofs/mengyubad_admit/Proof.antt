@@ -4,11 +4,6 @@ use Rattle.mengyubad.proofs.ReplyLaws.{given-equal}
 use borrow.Author.Needs.{needs}
 use Rattle.mengyubad.proofs.mengyubad_admit.Statement.{statement}
 use Rattle.mengyubad.proofs.mengyubad_admit.Tie as tie
-use Rattle.mengyubad.proofs.mengyubad_admit.Reads as reads
-use Rattle.mengyubad.proofs.mengyubad_admit.Lts as lts
-use Rattle.mengyubad.proofs.admission_reply.Reads as admission-reply-reads
-use Rattle.mengyubad.proofs.give.Reads as give-reads
-use Rattle.sheets.proofs.admission.admit.Reads as admit-reads
 
 admit-requires : tie.Need-admit-requires
 admit-requires c κs = search needs

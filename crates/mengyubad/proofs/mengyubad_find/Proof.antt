@@ -4,11 +4,6 @@ use Rattle.mengyubad.proofs.ReplyLaws.{given-equal}
 use borrow.Author.Needs.{needs}
 use Rattle.mengyubad.proofs.mengyubad_find.Statement.{statement}
 use Rattle.mengyubad.proofs.mengyubad_find.Tie as tie
-use Rattle.mengyubad.proofs.mengyubad_find.Reads as reads
-use Rattle.mengyubad.proofs.mengyubad_find.Lts as lts
-use Rattle.mengyubad.proofs.found_reply.Reads as found-reply-reads
-use Rattle.mengyubad.proofs.give.Reads as give-reads
-use Rattle.sheets.proofs.finding.find.Reads as find-reads
 
 element-copy-out-t8 : tie.Need-element-copy-out-t8
 element-copy-out-t8 c = search needs

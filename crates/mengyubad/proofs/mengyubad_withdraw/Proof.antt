@@ -5,11 +5,6 @@ use Rattle.mengyubad.proofs.ReplyLaws.{given-equal}
 use borrow.Author.Needs.{needs}
 use Rattle.mengyubad.proofs.mengyubad_withdraw.Statement.{statement}
 use Rattle.mengyubad.proofs.mengyubad_withdraw.Tie as tie
-use Rattle.mengyubad.proofs.mengyubad_withdraw.Reads as reads
-use Rattle.mengyubad.proofs.mengyubad_withdraw.Lts as lts
-use Rattle.mengyubad.proofs.give.Reads as give-reads
-use Rattle.mengyubad.proofs.withdrawal_reply.Reads as withdrawal-reply-reads
-use Rattle.sheets.proofs.withdrawal.withdraw.Reads as withdraw-reads
 
 withdraw-requires : tie.Need-withdraw-requires
 withdraw-requires c κs = search needs

@@ -2,8 +2,6 @@ use mathlib.Core.Path.{refl}
 use Rattle.mengyubad.specs.Replies.{oneValue}
 use Rattle.mengyubad.proofs.single.Statement.{statement}
 use Rattle.mengyubad.proofs.single.Tie as tie
-use Rattle.mengyubad.proofs.single.Reads as reads
-use Rattle.mengyubad.proofs.single.Lts as lts
 
 returns : tie.Need-returns
 unfolding oneValue

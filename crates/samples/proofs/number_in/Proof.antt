@@ -3,11 +3,6 @@ use borrow.Author.Needs.{needs}
 use lib.ListN.{length}
 use Rattle.samples.proofs.number_in.Statement.{statement}
 use Rattle.samples.proofs.number_in.Tie as tie
-use Rattle.samples.proofs.number_in.Reads as reads
-use Rattle.samples.proofs.number_in.Lts as lts
-use Rattle.answers.proofs.numbers.read_number.Reads as read-number-reads
-use Rattle.samples.proofs.behind.Reads as behind-reads
-use Rattle.samples.proofs.place_of.Reads as place-of-reads
 
 abbrev Inv-loop : tie.InvT-loop
 Inv-loop line n start₀ passed₀ start passed = start ≤ length line

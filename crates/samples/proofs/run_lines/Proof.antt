@@ -3,11 +3,6 @@ use borrow.Author.Needs.{needs}
 use lib.ListN.{length}
 use Rattle.samples.proofs.run_lines.Statement.{statement}
 use Rattle.samples.proofs.run_lines.Tie as tie
-use Rattle.samples.proofs.run_lines.Reads as reads
-use Rattle.samples.proofs.run_lines.Lts as lts
-use Rattle.samples.proofs.behind.Reads as behind-reads
-use Rattle.samples.proofs.place_of.Reads as place-of-reads
-use Rattle.samples.proofs.run_line.Reads as run-line-reads
 
 abbrev Inv-loop : tie.InvT-loop
 Inv-loop list task start₀ start = start ≤ length list

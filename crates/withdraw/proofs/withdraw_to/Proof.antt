@@ -5,26 +5,21 @@ use Rattle.answers.proofs.RoomLaws.{length-within}
 use borrow.Author.Needs.{needs}
 use Rattle.withdraw.proofs.withdraw_to.Statement.{statement}
 use Rattle.withdraw.proofs.withdraw_to.Tie as tie
-use Rattle.withdraw.proofs.withdraw_to.Reads as reads
-use Rattle.withdraw.proofs.withdraw_to.Lts as lts
-use Rattle.answers.proofs.runs.print_withdrawal.Reads as print-withdrawal-reads
-use Rattle.answers.proofs.runs.withdraw_input.Reads as withdraw-input-reads
-use Rattle.withdraw.proofs.make_file.Reads as make-file-reads
 
-slice-aggregate-withdraw-input : tie.Need-slice-aggregate-withdraw-input
-slice-aggregate-withdraw-input c = search needs
+slice-aggregate-withdraw-sheet : tie.Need-slice-aggregate-withdraw-sheet
+slice-aggregate-withdraw-sheet c = search needs
 
-withdraw-input-requires : tie.Need-withdraw-input-requires
-withdraw-input-requires c κs = search needs
+withdraw-sheet-requires : tie.Need-withdraw-sheet-requires
+withdraw-sheet-requires c κs = search needs
 
 enum-known-answer : tie.Need-enum-known-answer
 enum-known-answer c = search needs
 
 array-share-prefix-out : tie.Need-array-share-prefix-out
-array-share-prefix-out c = omega (arith, length-within (c .before .before .before .before .withdraw-input .ensures) (c .before .answer .given .1))
+array-share-prefix-out c = omega (arith, length-within (c .before .before .before .before .withdraw-sheet .ensures .1 .1 .1) (c .before .answer .given .1))
 
 slice-aggregate-make-file : tie.Need-slice-aggregate-make-file
-slice-aggregate-make-file c = sym (length-take-le _ _ (omega (arith, length-within (c .before .before .before .before .before .withdraw-input .ensures) (c .before .before .answer .given .1))))
+slice-aggregate-make-file c = sym (length-take-le _ _ (omega (arith, length-within (c .before .before .before .before .before .withdraw-sheet .ensures .1 .1 .1) (c .before .before .answer .given .1))))
 
 make-file-requires : tie.Need-make-file-requires
 make-file-requires c κs = search needs
@@ -45,8 +40,8 @@ pub withdraw-to-spec : {M : Type 1} → statement M
 withdraw-to-spec =
     tie.close
     (tie.spec
-    slice-aggregate-withdraw-input
-    withdraw-input-requires
+    slice-aggregate-withdraw-sheet
+    withdraw-sheet-requires
     enum-known-answer
     array-share-prefix-out
     slice-aggregate-make-file

@@ -1,13 +1,13 @@
 //! What a rule concludes from premises, for the rules whose conclusion the premises determine.
 
-use super::derivation::Derivation;
+use super::derivation::{stated, Derivation};
 use crate::reference::judgments::Judgment::{self, Equality, Subtype, Typing, WellFormed};
 use crate::reference::terms::{Context, Node, Term, Terms};
 
 impl Derivation {
     /// Adds the conclusion that the premises determine. None: they do not have the rule's shape, or a limit is met.
     pub fn apply(&mut self, rule: u32, premises: &[usize]) -> Option<usize> {
-        let stated: Vec<Judgment> = premises.iter().map(|&p| self.judgment(p)).collect();
+        let stated = stated(&self.lines, premises);
         let conclusion = conclude(&mut self.terms, rule, &stated)?;
         self.add(rule, premises, conclusion)
     }

@@ -13,6 +13,11 @@ pub struct Line {
     pub premises: Vec<usize>,
 }
 
+/// What the lines of these numbers state.
+pub fn stated(lines: &[Line], numbers: &[usize]) -> Vec<Judgment> {
+    numbers.iter().map(|&n| lines[n].judgment).collect()
+}
+
 #[derive(Default)]
 pub struct Derivation {
     pub terms: Terms,
@@ -78,7 +83,7 @@ impl Derivation {
         if !judgment.subjects().iter().all(|&t| self.term_fits(t)) {
             return None;
         }
-        let stated: Vec<Judgment> = premises.iter().map(|&p| self.lines[p].judgment).collect();
+        let stated = stated(&self.lines, premises);
         if !instance(&mut self.terms, rule, &stated, judgment) {
             self.unfit.push(rule);
             return None;

@@ -46,25 +46,27 @@ pub fn encode(terms: &mut Terms, lines: &[Line], style: Style, random: &mut Rand
     };
     encoder.context_numbers.insert(EMPTY, 0);
     encoder.emit_used(lines);
-    encoder.pad();
+    encoder.pad_terms();
+    encoder.pad_contexts();
     encoder.bytes(lines)
 }
 
 impl Encoder<'_> {
     /// Rows for the terms and contexts that the lines mention, and for no others.
     fn emit_used(&mut self, lines: &[Line]) {
-        let mut used: Vec<(Context, Vec<Term>)> = lines
-            .iter()
-            .map(|line| (line.judgment.context(), line.judgment.subjects()))
-            .collect();
+        let mut used: Vec<Judgment> = lines.iter().map(|line| line.judgment).collect();
         if self.style.shuffled {
             self.random.shuffle(&mut used);
         }
-        for (context, subjects) in used {
-            self.emit_context(context);
-            for subject in subjects {
-                self.emit(subject);
-            }
+        for judgment in used {
+            self.emit_judgment(judgment);
+        }
+    }
+
+    fn emit_judgment(&mut self, judgment: Judgment) {
+        self.emit_context(judgment.context());
+        for subject in judgment.subjects() {
+            self.emit(subject);
         }
     }
 
@@ -161,11 +163,15 @@ impl Encoder<'_> {
         number
     }
 
-    /// Unused rows until the counts that the style asks for.
-    fn pad(&mut self) {
+    /// Unused terms up to the count that the style asks for.
+    fn pad_terms(&mut self) {
         while self.rows.len() < self.style.upto_terms {
             self.emit_unused();
         }
+    }
+
+    /// Unused contexts up to the count that the style asks for.
+    fn pad_contexts(&mut self) {
         while self.contexts.len() < self.style.upto_contexts && !self.rows.is_empty() {
             let parent = self.random.below(self.contexts.len() + 1) as u16;
             let row = [parent, self.random.below(self.rows.len()) as u16];

@@ -26,13 +26,25 @@ impl Maker {
         let nat = self.nat();
         let h = self.under(g, nat, 3)?;
         let motive = self.some_family(h, fuel)?;
-        let k = self.extend(motive)?;
-        let (_, p, _) = self.d.judgment(motive).typing()?;
-        let (zero_type, succ_type) = (self.d.terms.at_zero(p), self.d.terms.at_succ(p));
+        let (k, zero_type, succ_type) = self.case_types(motive)?;
         let base = self.inhabit(g, zero_type, fuel)?;
         let step = self
             .applied_step(k, succ_type)
             .or_else(|| self.inhabit(k, succ_type, fuel))?;
+        self.cases(g, [motive, base, step], fuel)
+    }
+
+    /// The context of the step, P[zero] and P[succ x], for the line of a motive P.
+    fn case_types(&mut self, motive: usize) -> Option<(Context, Term, Term)> {
+        let k = self.extend(motive)?;
+        let (_, p, _) = self.d.judgment(motive).typing()?;
+        Some((k, self.d.terms.at_zero(p), self.d.terms.at_succ(p)))
+    }
+
+    /// The cases of these lines, with some number.
+    fn cases(&mut self, g: Context, lines: [usize; 3], fuel: u32) -> Option<Cases> {
+        let [motive, base, step] = lines;
+        let nat = self.nat();
         let number = self.inhabit(g, nat, fuel)?;
         Some(Cases {
             motive,
@@ -48,17 +60,10 @@ impl Maker {
         let nat = self.nat();
         let h = self.under(g, nat, 3)?;
         let motive = self.type_line(h, p, 8)?;
-        let k = self.extend(motive)?;
-        let (zero_type, succ_type) = (self.d.terms.at_zero(p), self.d.terms.at_succ(p));
+        let (k, zero_type, succ_type) = self.case_types(motive)?;
         let base = self.check(g, b, zero_type, 8)?;
         let step = self.check(k, c, succ_type, 8)?;
-        let number = self.inhabit(g, nat, fuel)?;
-        Some(Cases {
-            motive,
-            number,
-            base,
-            step,
-        })
+        self.cases(g, [motive, base, step], fuel)
     }
 
     /// P = T -> T for a type T that uses its variable, with identities for b and c.

@@ -1,7 +1,7 @@
 //! Lines that fail a rule only by what ties its premises together: some premises stand in a longer context, or at an equal type.
 
 use super::conclusions::conclude;
-use super::derivation::Line;
+use super::derivation::{stated, Line};
 use super::maker::Maker;
 use crate::reference::judgments::Judgment;
 use crate::reference::rules::instance;
@@ -40,7 +40,7 @@ impl Maker {
             };
             premises[place] = changed.unwrap_or(premises[place]);
         }
-        let stated: Vec<Judgment> = premises.iter().map(|&p| self.d.judgment(p)).collect();
+        let stated = stated(&self.d.lines, &premises);
         let mut judgment = conclude(&mut self.d.terms, old.rule, &stated).unwrap_or(old.judgment);
         if longer && self.random.one_in(2) {
             judgment = judgment.with(g, &judgment.subjects());

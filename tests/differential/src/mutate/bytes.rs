@@ -5,15 +5,9 @@ use crate::reference::layout::{
     set_word, word, Counts, CONTEXT_ROW, LINE_ROW, MAX_LENGTH, TERM_ROW, TRAILER,
 };
 
-/// The counts that a sheet's trailer names.
+/// The counts that a sheet's trailer names, if its length is theirs.
 fn counts_of(sheet: &[u8]) -> Option<Counts> {
-    let start = sheet.len().checked_sub(TRAILER)?;
-    let count = |place: usize| usize::from(word(sheet, start + 2 * place));
-    let counts = Counts {
-        terms: count(0),
-        contexts: count(1),
-        lines: count(2),
-    };
+    let counts = (sheet.len() >= TRAILER).then(|| Counts::stated(sheet))?;
     (counts.length() == sheet.len()).then_some(counts)
 }
 
@@ -92,13 +86,7 @@ fn wrap_count(sheet: &mut [u8], random: &mut Random) {
 /// Distances that agree with the counts, as far as a word holds them.
 fn fit_distances(sheet: &mut [u8]) {
     let start = sheet.len() - TRAILER;
-    let count = |place: usize| usize::from(word(sheet, start + 2 * place));
-    let counts = Counts {
-        terms: count(0),
-        contexts: count(1),
-        lines: count(2),
-    };
-    for (place, distance) in counts.distances().into_iter().enumerate() {
+    for (place, distance) in Counts::stated(sheet).distances().into_iter().enumerate() {
         set_word(sheet, start + 8 + 2 * place, distance as u16);
     }
 }
@@ -178,10 +166,7 @@ fn with_rows(sheet: &[u8], counts: Counts, rows: &[[u16; 5]]) -> Vec<u8> {
         terms: counts.terms + rows.len(),
         ..counts
     };
-    let start = new.len() - TRAILER;
-    for (place, &value) in more.trailer().iter().enumerate() {
-        set_word(&mut new, start + 2 * place, value);
-    }
+    more.write_trailer(&mut new);
     new
 }
 

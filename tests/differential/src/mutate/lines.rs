@@ -1,11 +1,10 @@
 //! Changes of one line of a derivation, before it is encoded.
 
-use super::misread::misread;
+use super::misread::Misreading;
 use super::perturb::perturbed;
 use super::premises::change_premise;
-use crate::generate::derivation::Line;
+use crate::generate::derivation::{stated, Line};
 use crate::random::Random;
-use crate::reference::judgments::Judgment;
 use crate::reference::rules::{conclusion_form, instance, premise_count};
 use crate::reference::terms::{Term, Terms};
 
@@ -28,8 +27,12 @@ pub fn change_line(
 
 /// Whether the line is an instance still.
 fn follows(terms: &mut Terms, lines: &[Line], line: &Line) -> bool {
-    let stated: Vec<Judgment> = line.premises.iter().map(|&p| lines[p].judgment).collect();
-    instance(terms, line.rule, &stated, line.judgment)
+    instance(
+        terms,
+        line.rule,
+        &stated(lines, &line.premises),
+        line.judgment,
+    )
 }
 
 fn changed_once(terms: &mut Terms, lines: &[Line], number: usize, random: &mut Random) -> Line {
@@ -39,9 +42,14 @@ fn changed_once(terms: &mut Terms, lines: &[Line], number: usize, random: &mut R
     let mut line = lines[number].clone();
     match random.below(10) {
         0..=2 => {
-            let stated: Vec<Judgment> = line.premises.iter().map(|&p| lines[p].judgment).collect();
-            let wrong = misread(terms, line.rule, &stated, line.judgment, random);
-            line.judgment = wrong.unwrap_or(line.judgment);
+            let mut misreading = Misreading {
+                terms,
+                random,
+                rule: line.rule,
+                p: &stated(lines, &line.premises),
+                c: line.judgment,
+            };
+            line.judgment = misreading.conclusion().unwrap_or(line.judgment);
         }
         3 | 4 => perturb_subject(terms, lines, &mut line, random),
         5 => other_subject(lines, &mut line, random),

@@ -1,7 +1,7 @@
 //! Another premise, with the conclusion that the rule's shape then gives: only what ties the premises together can fail.
 
 use crate::generate::conclusions::conclude;
-use crate::generate::derivation::Line;
+use crate::generate::derivation::{stated, Line};
 use crate::random::Random;
 use crate::reference::judgments::Judgment;
 use crate::reference::terms::Terms;
@@ -41,7 +41,7 @@ pub fn change_premise(
         let place = random.below(line.premises.len());
         line.premises[place] = other_line(terms, lines, number, line.premises[place], random);
     }
-    let stated: Vec<Judgment> = line.premises.iter().map(|&p| lines[p].judgment).collect();
+    let stated = stated(lines, &line.premises);
     let old = line.judgment;
     line.judgment = conclude(terms, line.rule, &stated)
         .map(|new| in_some_context(terms, new, &stated, random))

@@ -5,18 +5,6 @@ use super::reading::Reading;
 use super::rules::premise_count;
 use super::{Answer, Refusal};
 
-pub fn admit(sheet: &[u8], work: &mut [u32]) -> Answer {
-    Reading::of(sheet).admit(work)
-}
-
-pub fn find(sheet: &[u8], work: &mut [u32], wanted: [u32; 5]) -> Answer {
-    Reading::of(sheet).find(sheet, work, wanted)
-}
-
-pub fn withdraw(sheet: &[u8], line: usize, work: &mut [u32], out: &mut [u8]) -> Answer {
-    Reading::of(sheet).withdraw(sheet, line, work, out)
-}
-
 fn refused(number: usize, place: usize) -> Answer {
     Answer {
         number,
@@ -64,10 +52,7 @@ impl Reading {
             Err(answer) => return answer,
             Ok(counts) => counts,
         };
-        let states = |line: &usize| {
-            let at = counts.line_at(*line);
-            [0, 2, 3, 4, 5].map(|place| u32::from(word(sheet, at + 2 * place))) == wanted
-        };
+        let states = |&line: &usize| counts.judgment(sheet, line) == wanted;
         match (0..counts.lines).find(states) {
             Some(line) => done(line),
             None => refused(14, 0),
@@ -111,12 +96,11 @@ fn uses(sheet: &[u8], counts: Counts, line: usize, premise: usize) -> bool {
 /// The sheet without a line that no line uses.
 fn without(sheet: &[u8], counts: Counts, line: usize) -> Vec<u8> {
     let mut new = sheet.to_vec();
-    for user in line + 1..counts.lines {
-        for at in premise_places(sheet, counts, user) {
-            let premise = word(sheet, at);
-            if usize::from(premise) > line {
-                set_word(&mut new, at, premise - 1);
-            }
+    let later = line + 1..counts.lines;
+    for at in later.flat_map(|user| premise_places(sheet, counts, user)) {
+        let premise = word(sheet, at);
+        if usize::from(premise) > line {
+            set_word(&mut new, at, premise - 1);
         }
     }
     let start = counts.line_at(line);
@@ -125,9 +109,6 @@ fn without(sheet: &[u8], counts: Counts, line: usize) -> Vec<u8> {
         lines: counts.lines - 1,
         ..counts
     };
-    let trailer = new.len() - 16;
-    for (place, &value) in fewer.trailer().iter().enumerate() {
-        set_word(&mut new, trailer + 2 * place, value);
-    }
+    fewer.write_trailer(&mut new);
     new
 }

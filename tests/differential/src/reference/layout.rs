@@ -32,6 +32,18 @@ pub struct Counts {
 }
 
 impl Counts {
+    /// The counts that a trailer states, whether or not the rest of the sheet agrees.
+    pub fn stated(sheet: &[u8]) -> Counts {
+        let start = sheet.len() - TRAILER;
+        let [terms, contexts, lines] =
+            [0, 2, 4].map(|place| usize::from(word(sheet, start + place)));
+        Counts {
+            terms,
+            contexts,
+            lines,
+        }
+    }
+
     pub fn within_limits(self) -> bool {
         self.terms <= MAX_TERMS && self.contexts <= MAX_CONTEXTS && self.lines <= MAX_LINES
     }
@@ -60,6 +72,12 @@ impl Counts {
         TERM_ROW * self.terms + CONTEXT_ROW * self.contexts + LINE_ROW * line
     }
 
+    /// The numbers of a line's judgment: form, context, s1, s2, s3.
+    pub fn judgment(self, sheet: &[u8], line: usize) -> [u32; 5] {
+        let at = self.line_at(line);
+        [0, 2, 3, 4, 5].map(|place| u32::from(word(sheet, at + 2 * place)))
+    }
+
     /// The trailer's eight words.
     pub fn trailer(self) -> [u16; 8] {
         let [terms, contexts, lines] = self.distances();
@@ -73,5 +91,13 @@ impl Counts {
             lines as u16,
             MARK,
         ]
+    }
+
+    /// Writes the trailer of these counts over the last bytes.
+    pub fn write_trailer(self, sheet: &mut [u8]) {
+        let start = sheet.len() - TRAILER;
+        for (place, &value) in self.trailer().iter().enumerate() {
+            set_word(sheet, start + 2 * place, value);
+        }
     }
 }

@@ -11,8 +11,6 @@ mod subtyping;
 pub mod terms;
 mod typing;
 
-pub use calls::{admit, find, withdraw};
-
 /// What a call answers: number 0 with its values, or the number of a refusal with its place as the first value.
 #[derive(Clone, Copy, Debug, PartialEq, Eq)]
 pub struct Answer {

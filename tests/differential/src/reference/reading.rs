@@ -60,11 +60,7 @@ fn read_trailer(sheet: &[u8]) -> Result<Counts, Refusal> {
     if words[7] != MARK || words[3] != EDITION {
         return Err(refuse(2, 0));
     }
-    let counts = Counts {
-        terms: usize::from(words[0]),
-        contexts: usize::from(words[1]),
-        lines: usize::from(words[2]),
-    };
+    let counts = Counts::stated(sheet);
     let written = [words[4], words[5], words[6]].map(usize::from);
     if !counts.within_limits() || written != counts.distances() || sheet.len() != counts.length() {
         return Err(refuse(3, 0));
@@ -98,18 +94,17 @@ fn read_tables(sheet: &[u8], counts: Counts) -> Reading {
 
 impl Tables<'_> {
     fn read_all(&mut self) -> Result<(), Refusal> {
-        for number in 0..self.counts.terms {
+        let counts = self.counts;
+        (0..counts.terms).try_for_each(|number| {
             self.read_term(number)
-                .map_err(|fault| refuse(fault, number))?;
-        }
-        for number in 1..=self.counts.contexts {
-            self.read_context(number).ok_or(refuse(8, number))?;
-        }
-        for number in 0..self.counts.lines {
+                .map_err(|fault| refuse(fault, number))
+        })?;
+        (1..=counts.contexts)
+            .try_for_each(|number| self.read_context(number).ok_or(refuse(8, number)))?;
+        (0..counts.lines).try_for_each(|number| {
             self.read_line(number)
-                .map_err(|fault| refuse(fault, number))?;
-        }
-        Ok(())
+                .map_err(|fault| refuse(fault, number))
+        })
     }
 
     fn words<const N: usize>(&self, at: usize) -> [u16; N] {

@@ -185,7 +185,12 @@ impl Terms {
 
 /// Shift and substitution.
 impl Terms {
-    fn rebuild(&mut self, term: Term, step: &mut dyn FnMut(&mut Terms, Term, u32) -> Term) -> Term {
+    /// The term over what `step` gives for its children; it is told how many variables each binds.
+    pub fn rebuild(
+        &mut self,
+        term: Term,
+        step: &mut dyn FnMut(&mut Terms, Term, u32) -> Term,
+    ) -> Term {
         let node = self.node(term);
         let (list, count) = children(node);
         let mut with = [0; 4];

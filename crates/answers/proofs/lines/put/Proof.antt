@@ -1,13 +1,10 @@
 -- The invariant is that the first i bytes are put.
 use Prim.Native.Nat.{_-_}
-use native.Mathlib.Omega.{arith}
 use borrow.Author.Needs.{needs}
 use lib.ListN.{length}
 use Rattle.answers.proofs.TextLaws.{PutSoFar, put-start, put-next, put-done}
 use Rattle.answers.proofs.lines.put.Statement.{statement}
 use Rattle.answers.proofs.lines.put.Tie as tie
-use Rattle.answers.proofs.lines.put.Reads as reads
-use Rattle.answers.proofs.lines.put.Lts as lts
 
 abbrev Inv-loop : tie.InvT-loop
 Inv-loop out₀ at bytes i₀ out i = PutSoFar out₀ at bytes out i

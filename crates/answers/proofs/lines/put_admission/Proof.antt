@@ -1,14 +1,9 @@
-use mathlib.Core.Path.{sym, _∙_, ap}
+use mathlib.Core.Path.{sym, ap}
 use Rattle.answers.specs.Text.{admissionText}
-use Rattle.answers.proofs.TextLaws.{joined, whole-line}
+use Rattle.answers.proofs.TextLaws.{joined, whole-line, same-text}
 use borrow.Author.Needs.{needs}
 use Rattle.answers.proofs.lines.put_admission.Statement.{statement}
 use Rattle.answers.proofs.lines.put_admission.Tie as tie
-use Rattle.answers.proofs.lines.put_admission.Reads as reads
-use Rattle.answers.proofs.lines.put_admission.Lts as lts
-use Rattle.answers.proofs.lines.put.Reads as put-reads
-use Rattle.answers.proofs.lines.put_number.Reads as put-number-reads
-use Rattle.answers.proofs.lines.put_refusal.Reads as put-refusal-reads
 
 enum-known-answer : tie.Need-enum-known-answer
 enum-known-answer c = search needs
@@ -42,12 +37,12 @@ put-requires-2 c κs = search needs
 
 returns : tie.Need-returns
 unfolding admissionText
-returns c = (c .put-refusal .ensures .0, c .put-refusal .ensures .1 ∙ ap admissionText (sym (c .before .before .before .answer .given .1)))
+returns c = (c .put-refusal .ensures .0, same-text (ap admissionText (sym (c .before .before .before .answer .given .1))) (c .put-refusal .ensures .1))
 
 returns-2 : tie.Need-returns-2
 unfolding admissionText
 returns-2 c =
-    let line = whole-line (joined (c .before .before .before .before .before .before .before .before .before .put .ensures) (joined (c .before .before .before .before .before .before .before .put-number .ensures .0) (joined (c .before .before .before .before .before .put-number2 .ensures .0) (joined (c .before .before .before .put-number3 .ensures .0) (c .put2 .ensures))))) in (line .0, line .1 ∙ ap admissionText (sym (c .before .before .before .before .before .before .before .before .before .before .before .before .before .answer2 .given .1)))
+    let line = whole-line (joined (c .before .before .before .before .before .before .before .before .before .put .ensures) (joined (c .before .before .before .before .before .before .before .put-number .ensures .0) (joined (c .before .before .before .before .before .put-number2 .ensures .0) (joined (c .before .before .before .put-number3 .ensures .0) (c .put2 .ensures))))) in (line .0, same-text (ap admissionText (sym (c .before .before .before .before .before .before .before .before .before .before .before .before .before .answer2 .given .1))) (line .1))
 
 pub put-admission-spec : {M : Type 1} → statement M
 put-admission-spec =

@@ -1,12 +1,8 @@
 use native.Mathlib.Omega.{arith}
-use Rattle.answers.proofs.TextLaws.{twenty, decimal-is, number-put}
+use Rattle.answers.proofs.TextLaws.{twenty, number-put}
 use borrow.Author.Needs.{needs}
 use Rattle.answers.proofs.lines.put_number.Statement.{statement}
 use Rattle.answers.proofs.lines.put_number.Tie as tie
-use Rattle.answers.proofs.lines.put_number.Reads as reads
-use Rattle.answers.proofs.lines.put_number.Lts as lts
-use Rattle.answers.proofs.lines.put.Reads as put-reads
-use Rattle.io.proofs.decimal.Reads as decimal-reads
 
 decimal-requires : tie.Need-decimal-requires
 decimal-requires c κs = search needs

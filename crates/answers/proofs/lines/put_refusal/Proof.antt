@@ -3,10 +3,6 @@ use Rattle.answers.proofs.TextLaws.{joined, whole-line}
 use borrow.Author.Needs.{needs}
 use Rattle.answers.proofs.lines.put_refusal.Statement.{statement}
 use Rattle.answers.proofs.lines.put_refusal.Tie as tie
-use Rattle.answers.proofs.lines.put_refusal.Reads as reads
-use Rattle.answers.proofs.lines.put_refusal.Lts as lts
-use Rattle.answers.proofs.lines.put.Reads as put-reads
-use Rattle.answers.proofs.lines.put_number.Reads as put-number-reads
 
 slice-aggregate-put : tie.Need-slice-aggregate-put
 slice-aggregate-put c = search needs

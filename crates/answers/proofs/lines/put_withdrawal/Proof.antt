@@ -1,12 +1,9 @@
-use mathlib.Core.Path.{sym, _∙_, ap}
+use mathlib.Core.Path.{sym, ap}
 use Rattle.answers.specs.Text.{withdrawalText}
+use Rattle.answers.proofs.TextLaws.{same-text}
 use borrow.Author.Needs.{needs}
 use Rattle.answers.proofs.lines.put_withdrawal.Statement.{statement}
 use Rattle.answers.proofs.lines.put_withdrawal.Tie as tie
-use Rattle.answers.proofs.lines.put_withdrawal.Reads as reads
-use Rattle.answers.proofs.lines.put_withdrawal.Lts as lts
-use Rattle.answers.proofs.lines.put_refusal.Reads as put-refusal-reads
-use Rattle.answers.proofs.lines.put_value.Reads as put-value-reads
 
 enum-known-answer : tie.Need-enum-known-answer
 enum-known-answer c = search needs
@@ -22,11 +19,11 @@ put-value-requires c κs = search needs
 
 returns : tie.Need-returns
 unfolding withdrawalText
-returns c = (c .put-refusal .ensures .0, c .put-refusal .ensures .1 ∙ ap withdrawalText (sym (c .before .before .before .answer .given .1)))
+returns c = (c .put-refusal .ensures .0, same-text (ap withdrawalText (sym (c .before .before .before .answer .given .1))) (c .put-refusal .ensures .1))
 
 returns-2 : tie.Need-returns-2
 unfolding withdrawalText
-returns-2 c = (c .put-value .ensures .0, c .put-value .ensures .1 ∙ ap withdrawalText (sym (c .before .before .before .answer2 .given .1)))
+returns-2 c = (c .put-value .ensures .0, same-text (ap withdrawalText (sym (c .before .before .before .answer2 .given .1))) (c .put-value .ensures .1))
 
 pub put-withdrawal-spec : {M : Type 1} → statement M
 put-withdrawal-spec =

@@ -3,8 +3,6 @@ use Rattle.answers.specs.Numbers.{fieldOf}
 use borrow.Author.Needs.{needs}
 use Rattle.answers.proofs.numbers.field_of.Statement.{statement}
 use Rattle.answers.proofs.numbers.field_of.Tie as tie
-use Rattle.answers.proofs.numbers.field_of.Reads as reads
-use Rattle.answers.proofs.numbers.field_of.Lts as lts
 
 enum-known-reading : tie.Need-enum-known-reading
 enum-known-reading c = search needs

@@ -1,5 +1,5 @@
 -- The invariant is that the digits read so far, with the rest of the text, answer for the whole.
-use Prim.Native.Nat.{_+_, _-_, _*_}
+use Prim.Native.Nat.{_-_}
 use mathlib.Core.Path.{refl, sym, _∙_, ap}
 use native.Mathlib.Omega.{arith}
 use borrow.Author.Needs.{needs}
@@ -8,10 +8,6 @@ use lib.ListN.{length}
 use Rattle.answers.proofs.NumberLaws.{ReadSoFar, start, empty, done, not-read, overflows, goes-on, digit-range}
 use Rattle.answers.proofs.numbers.read_number.Statement.{statement}
 use Rattle.answers.proofs.numbers.read_number.Tie as tie
-use Rattle.answers.proofs.numbers.read_number.Reads as reads
-use Rattle.answers.proofs.numbers.read_number.Lts as lts
-use Rattle.answers.proofs.numbers.is_digit.Reads as is-digit-reads
-use Rattle.answers.proofs.numbers.wide.Reads as wide-reads
 
 abbrev Inv-loop : tie.InvT-loop
 Inv-loop text number₀ i₀ number i = ReadSoFar text number i

@@ -2,8 +2,6 @@ use Rattle.answers.specs.Numbers.{requestOf}
 use borrow.Author.Needs.{needs}
 use Rattle.answers.proofs.numbers.request_of.Statement.{statement}
 use Rattle.answers.proofs.numbers.request_of.Tie as tie
-use Rattle.answers.proofs.numbers.request_of.Reads as reads
-use Rattle.answers.proofs.numbers.request_of.Lts as lts
 
 enum-known-form : tie.Need-enum-known-form
 enum-known-form c = search needs

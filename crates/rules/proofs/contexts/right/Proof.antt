@@ -9,18 +9,18 @@ parent-requires c κs = search needs
 type-of-requires : tie.Need-type-of-requires
 type-of-requires c κs = search needs
 
-sub-held : tie.Need-sub-held
-sub-held c = search needs
+sub-repeated : tie.Need-sub-repeated
+sub-repeated c = search needs
 
-held-requires : tie.Need-held-requires
-held-requires c κs = search needs
+repeated-requires : tie.Need-repeated-requires
+repeated-requires c κs = search needs
 
 returns : tie.Need-returns
-returns c = right-rest _ _ _ _ _ (c .before .before .before .parent .ensures .0) (c .before .before .type-of .ensures .0) _ (c .before .if1 .taken) (c .held .ensures)
+returns c = right-rest _ _ _ _ _ (c .before .before .before .parent .ensures .0) (c .before .before .type-of .ensures .0) _ (c .before .if1 .taken) (c .repeated .ensures)
 
 returns-2 : tie.Need-returns-2
 returns-2 c = right-no _ _ _ _ _ (c .before .before .parent .ensures .0) (c .before .type-of .ensures .0) (c .if1 .left)
 
 pub right-spec : {M : Type 1} → statement M
 right-spec =
-    tie.close (tie.spec parent-requires type-of-requires sub-held held-requires returns returns-2)
+    tie.close (tie.spec parent-requires type-of-requires sub-repeated repeated-requires returns returns-2)

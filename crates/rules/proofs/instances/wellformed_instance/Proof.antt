@@ -5,7 +5,7 @@ use native.Mathlib.Omega.{arith}
 use Rattle.rules.specs.RuleTable.{premiseCount, premiseForm, addedEntries, formOf, countedFrom}
 use Rattle.rules.specs.Stated.{judgmentOf, usedPremises, placedFrom, FollowsPlaced}
 use Rattle.rules.proofs.ArmLaws.{usedSubjects, subjectsFrom, armSubjects, armContexts, by-arm, given-arm}
-use Rattle.rules.proofs.ContextTableAnswers.{rows-known, rows-of}
+use Rattle.rules.proofs.ContextTableAnswers.{rows-of}
 use Rattle.rules.proofs.MissedLaws.{missed}
 use Rattle.rules.proofs.instances.wellformed_instance.Statement.{statement}
 use Rattle.rules.proofs.instances.wellformed_instance.Tie as tie

@@ -1,5 +1,6 @@
+use mathlib.Core.Path.{_∙_, ap}
 use Prim.Native.Nat.{_+_, _-_, _*_}
-use Rattle.rules.specs.RuleTable.{ruleTable}
+use lib.ListN.{getD}
 use Rattle.rules.proofs.RuleTableEntries.{table-entry, table-most}
 use borrow.Author.Needs.{needs}
 use native.Mathlib.Omega.{arith}
@@ -15,17 +16,16 @@ mul-result c = search needs
 add-result : tie.Need-add-result
 add-result c = search needs
 
-array-read-result : tie.Need-array-read-result
-array-read-result c = search needs
+element-copy-out-result : tie.Need-element-copy-out-result
+element-copy-out-result c = search needs
 
 cast-result : tie.Need-cast-result
-unfolding ruleTable
-cast-result c = omega (arith, table-most (10 * (c .args .rule - 1) + c .args .column))
+cast-result c = let k = 10 * (c .before .args .rule - 1) + c .before .args .column in omega (arith, table-most k, ap (λ t. getD t k 0) (c .before .pre .0))
 
 returns : tie.Need-returns
-unfolding ruleTable
-returns c = (table-entry (c .args .rule) (c .args .column) (search needs) (search needs) (search needs), table-most (10 * (c .args .rule - 1) + c .args .column))
+returns c = ap (λ t. getD t (10 * (c .before .args .rule - 1) + c .before .args .column) 0) (c .before .pre .0) ∙ table-entry (c .before .args .rule) (c .before .args .column) (search needs) (search needs) (search needs)
 
 pub table-at-spec : {M : Type 1} → statement M
 table-at-spec =
-    tie.close (tie.spec sub-result mul-result add-result array-read-result cast-result returns)
+    tie.close
+    (tie.spec sub-result mul-result add-result element-copy-out-result cast-result returns)

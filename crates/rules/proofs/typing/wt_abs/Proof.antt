@@ -1,6 +1,6 @@
 -- WT-ABS: the tests are joined, and together they are the law of rule 5.
 -- Assumes nothing.
-use mathlib.Core.Path.{_≡_, refl}
+use mathlib.Core.Path.{_≡_}
 use mathlib.Core.Logic.{_↔_}
 use mathlib.Core.List.{[], _∷_}
 use mathlib.Core.Bool.{_&&_}

@@ -1,6 +1,6 @@
 -- WT-UNIV: the tests are joined, and together they are the law of rule 7.
 -- Assumes nothing.
-use mathlib.Core.Path.{_≡_, refl}
+use mathlib.Core.Path.{refl}
 use mathlib.Core.Logic.{_↔_}
 use mathlib.Core.List.{[], _∷_}
 use Rattle.terms.specs.Term.{Term}

@@ -1,6 +1,5 @@
 -- WT-VAR: the variable, its entry, and the entry's type raised.
 -- Assumes nothing.
-use mathlib.Core.Path.{sym, _∙_}
 use Rattle.rules.specs.Stated.{judgmentOf}
 use Rattle.rules.proofs.ContextTableAnswers.{rows-given}
 use Rattle.rules.proofs.ContextRuleAnswers.{var-no, var-missing, var-found, found-row}

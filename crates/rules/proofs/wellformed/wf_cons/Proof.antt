@@ -1,6 +1,5 @@
 -- WF-CONS: the last entry and its universe.
 -- Assumes nothing.
-use Rattle.terms.proofs.Tests.{given-of}
 use Rattle.rules.specs.Stated.{judgmentOf}
 use Rattle.rules.proofs.ContextTableAnswers.{rows-given}
 use Rattle.rules.proofs.ContextRuleAnswers.{cons-none, cons-says, entry-row}

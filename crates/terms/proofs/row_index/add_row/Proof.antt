@@ -5,10 +5,6 @@ use Rattle.terms.proofs.IndexLaws.{index-next}
 use borrow.Author.Needs.{needs}
 use Rattle.terms.proofs.row_index.add_row.Statement.{statement}
 use Rattle.terms.proofs.row_index.add_row.Tie as tie
-use Rattle.terms.proofs.row_index.add_row.Reads as reads
-use Rattle.terms.proofs.row_index.add_row.Lts as lts
-use Rattle.terms.proofs.row_index.bucket.Reads as bucket-reads
-use Rattle.terms.proofs.rows.read_row.Reads as read-row-reads
 
 read-row-requires : tie.Need-read-row-requires
 read-row-requires c κs = search needs

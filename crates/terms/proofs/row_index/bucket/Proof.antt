@@ -4,8 +4,6 @@ use Rattle.terms.specs.RowIndex.{bucketOf}
 use borrow.Author.Needs.{needs}
 use Rattle.terms.proofs.row_index.bucket.Statement.{statement}
 use Rattle.terms.proofs.row_index.bucket.Tie as tie
-use Rattle.terms.proofs.row_index.bucket.Reads as reads
-use Rattle.terms.proofs.row_index.bucket.Lts as lts
 
 mul-mixed : tie.Need-mul-mixed
 mul-mixed c = search needs

@@ -5,11 +5,6 @@ use native.Mathlib.Omega.{arith}
 use Rattle.terms.proofs.IndexLaws.{Searching, search-start, search-found, search-done, search-next}
 use Rattle.terms.proofs.row_index.repeated.Statement.{statement}
 use Rattle.terms.proofs.row_index.repeated.Tie as tie
-use Rattle.terms.proofs.row_index.repeated.Reads as reads
-use Rattle.terms.proofs.row_index.repeated.Lts as lts
-use Rattle.terms.proofs.row_index.bucket.Reads as bucket-reads
-use Rattle.terms.proofs.row_index.wide.Reads as wide-reads
-use Rattle.terms.proofs.rows.holds.Reads as holds-reads
 
 abbrev Inv-loop : tie.InvT-loop
 Inv-loop rows n row heads links at₀ at = Searching rows row n at

@@ -8,10 +8,6 @@ use Rattle.terms.specs.RowIndex.{Indexed}
 use Rattle.terms.proofs.CheckLaws.{Reached, reached-start, reached-fault, reached-next, reached-end}
 use Rattle.terms.proofs.sizes.check_rows.Statement.{statement}
 use Rattle.terms.proofs.sizes.check_rows.Tie as tie
-use Rattle.terms.proofs.sizes.check_rows.Reads as reads
-use Rattle.terms.proofs.sizes.check_rows.Lts as lts
-use Rattle.terms.proofs.row_index.add_row.Reads as add-row-reads
-use Rattle.terms.proofs.sizes.row_answer.Reads as row-answer-reads
 
 abbrev Inv-loop : tie.InvT-loop
 Inv-loop rows count work₀ heads₀ links₀ k₀ work heads links k = Reached rows count work₀ work k × Indexed rows k heads links

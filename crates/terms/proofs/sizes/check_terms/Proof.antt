@@ -3,9 +3,6 @@ use Rattle.terms.proofs.IndexLaws.{index-start}
 use borrow.Author.Needs.{needs}
 use Rattle.terms.proofs.sizes.check_terms.Statement.{statement}
 use Rattle.terms.proofs.sizes.check_terms.Tie as tie
-use Rattle.terms.proofs.sizes.check_terms.Reads as reads
-use Rattle.terms.proofs.sizes.check_terms.Lts as lts
-use Rattle.terms.proofs.sizes.check_rows.Reads as check-rows-reads
 
 slice-aggregate-check-rows : tie.Need-slice-aggregate-check-rows
 slice-aggregate-check-rows c = search needs

@@ -1,0 +1,56 @@
+-- The table that is lent is the definition's, at each of its eight reads.
+use mathlib.Core.Path.{refl}
+use Rattle.rules.specs.RuleTable.{ruleTable}
+use Rattle.rules.proofs.RuleTableEntries.{row-is}
+use borrow.Author.Needs.{needs}
+use Rattle.rules.proofs.table.rule_row.Statement.{statement}
+use Rattle.rules.proofs.table.rule_row.Tie as tie
+
+table-at-requires : tie.Need-table-at-requires
+unfolding ruleTable
+table-at-requires c κs = (refl, search needs)
+
+table-at-requires-2 : tie.Need-table-at-requires-2
+unfolding ruleTable
+table-at-requires-2 c κs = (refl, search needs)
+
+table-at-requires-3 : tie.Need-table-at-requires-3
+unfolding ruleTable
+table-at-requires-3 c κs = (refl, search needs)
+
+table-at-requires-4 : tie.Need-table-at-requires-4
+unfolding ruleTable
+table-at-requires-4 c κs = (refl, search needs)
+
+table-at-requires-5 : tie.Need-table-at-requires-5
+unfolding ruleTable
+table-at-requires-5 c κs = (refl, search needs)
+
+table-at-requires-6 : tie.Need-table-at-requires-6
+unfolding ruleTable
+table-at-requires-6 c κs = (refl, search needs)
+
+table-at-requires-7 : tie.Need-table-at-requires-7
+unfolding ruleTable
+table-at-requires-7 c κs = (refl, search needs)
+
+table-at-requires-8 : tie.Need-table-at-requires-8
+unfolding ruleTable
+table-at-requires-8 c κs = (refl, search needs)
+
+returns : tie.Need-returns
+returns c = row-is _ (c .before .before .before .before .before .before .before .table-at .ensures) (c .before .before .before .before .before .before .table-at2 .ensures) (c .before .before .before .before .before .table-at3 .ensures) (c .before .before .before .before .table-at4 .ensures) (c .before .before .before .table-at5 .ensures) (c .before .before .table-at6 .ensures) (c .before .table-at7 .ensures) (c .table-at8 .ensures)
+
+pub rule-row-spec : {M : Type 1} → statement M
+rule-row-spec =
+    tie.close
+    (tie.spec
+    table-at-requires
+    table-at-requires-2
+    table-at-requires-3
+    table-at-requires-4
+    table-at-requires-5
+    table-at-requires-6
+    table-at-requires-7
+    table-at-requires-8
+    returns)

@@ -1,0 +1,55 @@
+-- Finding and withdrawal, for any sheet and work buffer: an answer is given exactly if it means what document 01 says.
+-- Assumes nothing.
+use mathlib.Core.Path.{_≡_, refl, sym, _∙_, subst}
+use mathlib.Core.Logic.{_↔_}
+use mathlib.Core.List.{List}
+use Prim.Native.Nat.{ℕ}
+use Rattle.sheets.specs.declared.admission.Admission.{Admission}
+use Rattle.sheets.specs.declared.admission.Admission.the-variants.{Accepted, Refused as notAdmitted}
+use Rattle.sheets.specs.declared.finding.Wanted.{Wanted}
+use Rattle.sheets.specs.declared.finding.Found.{Found}
+use Rattle.sheets.specs.declared.finding.Found.the-variants.{Line, Refused as notFound}
+use Rattle.sheets.specs.declared.withdrawal.Withdrawal.{Withdrawal}
+use Rattle.sheets.specs.Admission.{admitOf}
+use Rattle.sheets.specs.Finding.{findOf}
+use Rattle.sheets.specs.Withdrawal.{withdrawOf}
+use Rattle.sheets.specs.Answered.{FoundMeans, faulty, found, absent, WithdrawnMeans, unfit, admitted}
+use Rattle.sheets.proofs.AdmissionLaws.{accepted-is, refused-is}
+use Rattle.sheets.proofs.FindingLaws.{find-refused, found-is, missing-is, missing-only}
+use Rattle.sheets.proofs.WithdrawalLaws.{withdraw-refused, withdrawn-is}
+
+module _ (bytes : List ℕ) (work : ℕ) (w : Wanted) where
+  on-found : (T C L : ℕ) → admitOf bytes work ≡ Accepted T C L → (a : Found) → findOf bytes work w ≡ a → FoundMeans bytes work w a
+  on-found T C L e (Line i) f = let g = accepted-is bytes work T C L .0 e in found (g .0) (g .1) (found-is bytes work w T C L e i .0 f)
+  on-found T C L e (notFound number place) f =
+      let g = accepted-is bytes work T C L .0 e in
+      let h = missing-only bytes work w T C L e number place f in
+      let k : findOf bytes work w ≡ notFound 14 0 = f ∙ (λ i. notFound (h .0 i) (h .1 i)) in
+      subst (FoundMeans bytes work w) (sym k ∙ f) (absent (g .0) (g .1) (missing-is bytes work w T C L e .0 k))
+
+  on-admission : (a : Admission) → admitOf bytes work ≡ a → FoundMeans bytes work w (findOf bytes work w)
+  on-admission (notAdmitted number place) e =
+      subst (FoundMeans bytes work w) (sym (find-refused bytes work w number place e)) (faulty (refused-is bytes work number place .0 e))
+  on-admission (Accepted T C L) e = on-found T C L e (findOf bytes work w) refl
+
+  back : {a : Found} → FoundMeans bytes work w a → findOf bytes work w ≡ a
+  back (faulty {number} {place} f) = find-refused bytes work w number place (refused-is bytes work number place .1 f)
+  back (found {T} {C} {L} {i} g room l) = found-is bytes work w T C L (accepted-is bytes work T C L .1 (g, room)) i .1 l
+  back (absent {T} {C} {L} g room none) = missing-is bytes work w T C L (accepted-is bytes work T C L .1 (g, room)) .1 none
+
+  pub find-is : (a : Found) → (findOf bytes work w ≡ a) ↔ FoundMeans bytes work w a
+  find-is a = (λ e. subst (FoundMeans bytes work w) e (on-admission (admitOf bytes work) refl), back)
+
+module _ (bytes : List ℕ) (work n room : ℕ) where
+  on-withdrawal : (a : Admission) → admitOf bytes work ≡ a → WithdrawnMeans bytes work n room (withdrawOf bytes n work room)
+  on-withdrawal (notAdmitted number place) e =
+      subst (WithdrawnMeans bytes work n room) (sym (withdraw-refused bytes n work room number place e)) (unfit (refused-is bytes work number place .0 e))
+  on-withdrawal (Accepted T C L) e =
+      let g = accepted-is bytes work T C L .0 e in admitted (g .0) (g .1) (withdrawn-is bytes n work room T C L e (withdrawOf bytes n work room) .0 refl)
+
+  withdrawal-back : {a : Withdrawal} → WithdrawnMeans bytes work n room a → withdrawOf bytes n work room ≡ a
+  withdrawal-back (unfit {number} {place} f) = withdraw-refused bytes n work room number place (refused-is bytes work number place .1 f)
+  withdrawal-back (admitted {T} {C} {L} {a} g fits m) = withdrawn-is bytes n work room T C L (accepted-is bytes work T C L .1 (g, fits)) a .1 m
+
+  pub withdrawal-is : (a : Withdrawal) → (withdrawOf bytes n work room ≡ a) ↔ WithdrawnMeans bytes work n room a
+  withdrawal-is a = (λ e. subst (WithdrawnMeans bytes work n room) e (on-withdrawal (admitOf bytes work) refl), withdrawal-back)
