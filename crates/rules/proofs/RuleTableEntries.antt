@@ -8,7 +8,7 @@ use native.Mathlib.Omega.{arith}
 use borrow.Author.Tests.{le-leb, lt-leb}
 use lib.ListN.{getD, length}
 use Rattle.terms.proofs.Tables.{at-most}
-use Rattle.rules.specs.RuleTable.{ruleTable, tableAt, premiseForm, addedEntries, ruleRow, formOf}
+use Rattle.rules.specs.RuleTable.{ruleTable, tableAt, premiseForm, addedEntries, ruleRow, formOf, premiseCount}
 use Rattle.rules.specs.declared.table.RuleRow.{RuleRow}
 use Rattle.rules.proofs.TableLaws.{table-length}
 
@@ -28,11 +28,11 @@ unfolding ruleTable
 table-most k = at-most 255 ruleTable refl k
 
 -- the numbers of columns 2 to 9 make the row
-pub row-is : (rule : ℕ) {a b c d i j k l : ℕ} → a ≡ tableAt rule 2 → b ≡ tableAt rule 3 → c ≡ tableAt rule 4 → d ≡ tableAt rule 5
+pub row-is : (rule : ℕ) {n a b c d i j k l : ℕ} → n ≡ tableAt rule 1 → a ≡ tableAt rule 2 → b ≡ tableAt rule 3 → c ≡ tableAt rule 4 → d ≡ tableAt rule 5
     → i ≡ tableAt rule 6 → j ≡ tableAt rule 7 → k ≡ tableAt rule 8 → l ≡ tableAt rule 9
-    → _≡_ {A = RuleRow} (record { form0 = a; form1 = b; form2 = c; form3 = d; added0 = i; added1 = j; added2 = k; added3 = l }) (ruleRow rule)
-unfolding ruleRow premiseForm addedEntries
-row-is rule ea eb ec ed ei ej ek el = cc
+    → _≡_ {A = RuleRow} (record { count = n; form0 = a; form1 = b; form2 = c; form3 = d; added0 = i; added1 = j; added2 = k; added3 = l }) (ruleRow rule)
+unfolding ruleRow premiseCount premiseForm addedEntries
+row-is rule en ea eb ec ed ei ej ek el = cc
 
 -- the ranges of rules, by the form that they conclude
 module _ (rule : ℕ) where

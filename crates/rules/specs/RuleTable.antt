@@ -80,10 +80,11 @@ unfoldable pub addedEntries : ℕ → ℕ → ℕ
 unfolding tableAt
 addedEntries rule j = tableAt rule (6 + j)
 
--- what the rule asks of its four premises
+-- what the rule asks of its premises
 unfoldable pub ruleRow : ℕ → RuleRow
 ruleRow rule =
     record {
+      count = premiseCount rule;
       form0 = premiseForm rule 0;
       form1 = premiseForm rule 1;
       form2 = premiseForm rule 2;

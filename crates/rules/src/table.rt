@@ -480,8 +480,10 @@ const TABLE: [u8; 430] = [
     255,
 ];
 
-// What a rule asks of its four premises: their forms, and how many entries their contexts add; 255 where there is no premise.
+// What a rule asks of its premises: how many there are, the forms of four, and how many entries their contexts add; 255 where there
+// is no premise.
 pub struct RuleRow {
+    pub count: usize,
     pub form0: usize,
     pub form1: usize,
     pub form2: usize,
@@ -501,22 +503,14 @@ fn table_at(table: &[u8; 430], rule: usize, column: usize) -> usize
     table[10 * (rule - 1) + column] as usize
 }
 
-// How many premises the rule has.
-pub fn premise_count(rule: usize) -> usize
-    requires { ⌜ (1 ≤ rule) × (rule ≤ 43) ⌝ }
-    ensures value { λ r. ⌜ r ≡ premiseCount rule ⌝ }
-    ensures range { λ r. ⌜ r ≤ 4 ⌝ }
-{
-    table_at(&TABLE, rule, 1)
-}
-
-// What the rule asks of its premises: the table is made once for the eight reads.
+// What the rule asks of its premises. The compiler makes a constant array anew wherever one is used: here once for all nine reads.
 pub fn rule_row(rule: usize) -> RuleRow
     requires { ⌜ (1 ≤ rule) × (rule ≤ 43) ⌝ }
     ensures { λ r. ⌜ r ≡ ruleRow rule ⌝ }
 {
     let table = &TABLE;
     RuleRow {
+        count: table_at(table, rule, 1),
         form0: table_at(table, rule, 2),
         form1: table_at(table, rule, 3),
         form2: table_at(table, rule, 4),
@@ -526,6 +520,16 @@ pub fn rule_row(rule: usize) -> RuleRow
         added2: table_at(table, rule, 8),
         added3: table_at(table, rule, 9),
     }
+}
+
+// How many premises the rule has.
+pub fn premise_count(rule: usize) -> usize
+    requires { ⌜ (1 ≤ rule) × (rule ≤ 43) ⌝ }
+    ensures value { λ r. ⌜ r ≡ premiseCount rule ⌝ }
+    ensures range { λ r. ⌜ r ≤ 4 ⌝ }
+{
+    let row = rule_row(rule);
+    row.count
 }
 
 // The form of the conclusion, by the ranges of rules; 255 where there is no such rule.

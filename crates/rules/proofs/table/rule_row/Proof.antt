@@ -1,4 +1,4 @@
--- The table that is lent is the definition's, at each of its eight reads.
+-- The table is the definition's at each of the nine reads.
 use mathlib.Core.Path.{refl}
 use Rattle.rules.specs.RuleTable.{ruleTable}
 use Rattle.rules.proofs.RuleTableEntries.{row-is}
@@ -38,8 +38,12 @@ table-at-requires-8 : tie.Need-table-at-requires-8
 unfolding ruleTable
 table-at-requires-8 c κs = (refl, search needs)
 
+table-at-requires-9 : tie.Need-table-at-requires-9
+unfolding ruleTable
+table-at-requires-9 c κs = (refl, search needs)
+
 returns : tie.Need-returns
-returns c = row-is _ (c .before .before .before .before .before .before .before .table-at .ensures) (c .before .before .before .before .before .before .table-at2 .ensures) (c .before .before .before .before .before .table-at3 .ensures) (c .before .before .before .before .table-at4 .ensures) (c .before .before .before .table-at5 .ensures) (c .before .before .table-at6 .ensures) (c .before .table-at7 .ensures) (c .table-at8 .ensures)
+returns c = row-is _ (c .before .before .before .before .before .before .before .before .table-at .ensures) (c .before .before .before .before .before .before .before .table-at2 .ensures) (c .before .before .before .before .before .before .table-at3 .ensures) (c .before .before .before .before .before .table-at4 .ensures) (c .before .before .before .before .table-at5 .ensures) (c .before .before .before .table-at6 .ensures) (c .before .before .table-at7 .ensures) (c .before .table-at8 .ensures) (c .table-at9 .ensures)
 
 pub rule-row-spec : {M : Type 1} → statement M
 rule-row-spec =
@@ -53,4 +57,5 @@ rule-row-spec =
     table-at-requires-6
     table-at-requires-7
     table-at-requires-8
+    table-at-requires-9
     returns)
