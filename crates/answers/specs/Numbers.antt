@@ -1,9 +1,8 @@
 -- The numbers that texts spell in decimal.
-use mathlib.Core.Bool.{Bool, true, false, _&&_, cond}
+use mathlib.Core.Bool.{Bool, true, _&&_, cond}
 use mathlib.Core.List.{List, [], _∷_}
 use Prim.Native.Nat.{ℕ, _+_, _-_, _*_}
 use lib.Dec.{ltb, leb}
-use Rattle.sheets.specs.declared.finding.Wanted.{Wanted}
 use Rattle.answers.specs.declared.numbers.Reading.{Reading}
 use Rattle.answers.specs.declared.numbers.Reading.the-variants.{Number, Unreadable}
 use Rattle.answers.specs.declared.numbers.Field.{Field}

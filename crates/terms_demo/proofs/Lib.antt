@@ -1,1 +1,2 @@
 pub mod InTable
+pub mod FillLaws

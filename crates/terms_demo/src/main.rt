@@ -11,40 +11,28 @@ ghost use Rattle.terms.specs.Table.{TermTable};
 fn write_head_tests(rows: &[u8])
     requires { ⌜ TermTable (now rows) 43 ⌝ }
 {
-    let yes = tests::nodes(rows);
-    writing::write_answers(b"node", &yes);
-    let no = tests::other_nodes(rows);
-    writing::write_answers(b"other node", &no);
-    let children = tests::children(rows);
-    writing::write_numbers(b"child", &children);
-    let numbers = tests::numbers(rows);
-    writing::write_numbers(b"number", &numbers);
-    let same = tests::equal_terms(rows);
-    writing::write_answers(b"same", &same);
+    tests::nodes(rows);
+    tests::other_nodes(rows);
+    tests::children(rows);
+    tests::numbers(rows);
+    tests::equal_terms(rows);
 }
 
 fn write_shift_tests(rows: &[u8])
     requires { ⌜ TermTable (now rows) 43 ⌝ }
 {
-    let shifts = tests::shifts(rows);
-    writing::write_answers(b"shift", &shifts);
-    let deep = tests::deep_shifts(rows);
-    writing::write_answers(b"deep shift", &deep);
+    tests::shifts(rows);
+    tests::deep_shifts(rows);
 }
 
 fn write_put_tests(rows: &[u8])
     requires { ⌜ TermTable (now rows) 43 ⌝ }
 {
-    let put = tests::put_rows(rows);
-    writing::write_answers(b"row put", &put);
-    let under = tests::put_rows_under(rows);
-    writing::write_answers(b"row put under a binder", &under);
-    let described = tests::put_described(rows);
-    writing::write_answers(b"zero or first put", &described);
-    let succ = tests::put_outer_succ(rows);
-    writing::write_answers(b"succ put", &succ);
-    let both = tests::put_both(rows);
-    writing::write_answers(b"both put", &both);
+    tests::put_rows(rows);
+    tests::put_rows_under(rows);
+    tests::put_described(rows);
+    tests::put_outer_succ(rows);
+    tests::put_both(rows);
 }
 
 fn write_tests(rows: &[u8])
@@ -56,8 +44,9 @@ fn write_tests(rows: &[u8])
 }
 
 fn whole_table() {
+    let table = tables::TABLE;
     let mut rows = [0u8; 430];
-    tables::fill_table(&mut rows);
+    tables::fill(&table, &mut rows);
     let mut work = [0u32; 45];
     match writing::checked(&rows, 43, &mut work) {
         TermsAnswer::Sound => {
@@ -67,13 +56,6 @@ fn whole_table() {
     }
 }
 
-fn write_bare_tests(rows: &[u8])
-    requires { ⌜ TermTable (now rows) 6 ⌝ }
-{
-    let put = tests::put_without_rows(rows);
-    writing::write_answers(b"put without a row", &put);
-}
-
 fn bare_table() {
     let table = tables::BARE;
     let mut rows = [0u8; 60];
@@ -81,7 +63,7 @@ fn bare_table() {
     let mut work = [0u32; 6];
     match writing::checked(&rows, 6, &mut work) {
         TermsAnswer::Sound => {
-            write_bare_tests(&rows);
+            tests::put_without_rows(&rows);
         }
         TermsAnswer::Faulty { number, place } => {}
     }
@@ -91,8 +73,9 @@ fn bare_table() {
 fn damaged_table(at: usize, value: u8)
     requires { ⌜ at < 430 ⌝ }
 {
+    let table = tables::TABLE;
     let mut rows = [0u8; 430];
-    tables::fill_table(&mut rows);
+    tables::fill(&table, &mut rows);
     tables::change(&mut rows, at, value);
     let mut work = [0u32; 45];
     writing::checked(&rows, 43, &mut work);
@@ -102,16 +85,18 @@ fn damaged_table(at: usize, value: u8)
 fn doubling_table(count: usize)
     requires { ⌜ count < 18 ⌝ }
 {
+    let table = tables::DOUBLING;
     let mut rows = [0u8; 170];
-    tables::fill_doubling(&mut rows);
+    tables::fill(&table, &mut rows);
     let mut work = [0u32; 18];
     writing::checked(&rows, count, &mut work);
 }
 
 // The doubling table with succ(15) for its last row.
 fn next_size() {
+    let table = tables::DOUBLING;
     let mut rows = [0u8; 170];
-    tables::fill_doubling(&mut rows);
+    tables::fill(&table, &mut rows);
     tables::change(&mut rows, 160, 12);
     tables::change(&mut rows, 164, 0);
     let mut work = [0u32; 18];

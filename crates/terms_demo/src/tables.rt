@@ -1,10 +1,11 @@
 // The term tables of the tests. A row is five words, the tag and four operands, each low byte first.
 ghost use mathlib.Core.Path.{_≡_};
 ghost use Prim.Native.Nat.{_*_, _<_};
-ghost use lib.ListN.{length};
+ghost use lib.ListN.{length, set};
+ghost use Rattle.terms_demo.specs.Tables.{Filled};
 
 // 43 rows; `v0` stands for the variable 0, and so on, and a bare number for the row of that number.
-const TABLE: [[u8; 10]; 43] = [
+pub const TABLE: [[u8; 10]; 43] = [
     // 0: Nat
     [10, 0, 0, 0, 0, 0, 0, 0, 0, 0],
     // 1: U_3
@@ -110,7 +111,7 @@ pub const BARE: [[u8; 10]; 6] = [
 ];
 
 // From Nat on, each next row is application(k - 1, k - 1): row 15 has size 65,535, and row 16 is over the limit.
-const DOUBLING: [[u8; 10]; 17] = [
+pub const DOUBLING: [[u8; 10]; 17] = [
     [10, 0, 0, 0, 0, 0, 0, 0, 0, 0],
     [5, 0, 0, 0, 0, 0, 0, 0, 0, 0],
     [5, 0, 1, 0, 1, 0, 0, 0, 0, 0],
@@ -133,6 +134,7 @@ const DOUBLING: [[u8; 10]; 17] = [
 // The bytes of the rows, one row behind the other.
 pub fn fill(rows: &[[u8; 10]], out: &mut [u8])
     requires { ⌜ length (now out) ≡ 10 * length (now rows) ⌝ }
+    ensures { λ _. ⌜ Filled (now (rows .entry)) (now (out .exit)) (length (now (out .entry))) ⌝ }
 {
     let mut i = 0;
     while i < out.len() {
@@ -141,25 +143,10 @@ pub fn fill(rows: &[[u8; 10]], out: &mut [u8])
     }
 }
 
-// The bytes of `TABLE`.
-pub fn fill_table(out: &mut [u8])
-    requires { ⌜ length (now out) ≡ 430 ⌝ }
-{
-    let table = TABLE;
-    fill(&table, out);
-}
-
-// The bytes of `DOUBLING`.
-pub fn fill_doubling(out: &mut [u8])
-    requires { ⌜ length (now out) ≡ 170 ⌝ }
-{
-    let table = DOUBLING;
-    fill(&table, out);
-}
-
 // Byte `at` made `value`.
 pub fn change(out: &mut [u8], at: usize, value: u8)
     requires { ⌜ at < length (now out) ⌝ }
+    ensures { λ _. ⌜ now (out .exit) ≡ set (now (out .entry)) at value ⌝ }
 {
     out[at] = value;
 }

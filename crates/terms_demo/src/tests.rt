@@ -1,4 +1,6 @@
-// The tests, on the rows of `tables::TABLE` unless another table is named. What a row spells stands in `tables`.
+// The tests, on the rows of `tables::TABLE` unless another table is named; each writes its answers. What a row spells stands in `tables`.
+use crate::writing::write_answers;
+use crate::writing::write_numbers;
 use terms::images::Put;
 use terms::images::is_shifted;
 use terms::images::is_substituted;
@@ -17,10 +19,10 @@ ghost use Rattle.terms.specs.Substitution.{substitute};
 ghost use Rattle.terms.specs.Table.{TermTable, Given};
 
 // Each constructor, with a row that spells it: all yes.
-pub fn nodes(rows: &[u8]) -> [bool; 13]
+pub fn nodes(rows: &[u8])
     requires { ⌜ TermTable (now rows) 43 ⌝ }
 {
-    [
+    let answers = [
         is_node(rows, 4, Node::Var(2)),
         is_node(rows, 1, Node::Univ(3)),
         is_node(rows, 13, Node::Pi(3, 2)),
@@ -34,14 +36,15 @@ pub fn nodes(rows: &[u8]) -> [bool; 13]
         is_node(rows, 7, Node::Zero),
         is_node(rows, 20, Node::Succ(4)),
         is_node(rows, 29, Node::Ind(4, 3, 4, 28)),
-    ]
+    ];
+    write_answers(b"node", &answers);
 }
 
 // Each constructor, with a row that spells another head or other children: all no.
-pub fn other_nodes(rows: &[u8]) -> [bool; 13]
+pub fn other_nodes(rows: &[u8])
     requires { ⌜ TermTable (now rows) 43 ⌝ }
 {
-    [
+    let answers = [
         // another index
         is_node(rows, 2, Node::Var(1)),
         // a variable is no universe
@@ -67,14 +70,15 @@ pub fn other_nodes(rows: &[u8]) -> [bool; 13]
         is_node(rows, 20, Node::Succ(3)),
         // another third child
         is_node(rows, 29, Node::Ind(4, 3, 3, 28)),
-    ]
+    ];
+    write_answers(b"other node", &answers);
 }
 
 // The rows of children; a term with no child at a place stands for itself.
-pub fn children(rows: &[u8]) -> [usize; 8]
+pub fn children(rows: &[u8])
     requires { ⌜ TermTable (now rows) 43 ⌝ }
 {
-    [
+    let values = [
         // the four children of ind: 4, 3, 4, 28
         child(rows, 29, 1),
         child(rows, 29, 2),
@@ -87,37 +91,40 @@ pub fn children(rows: &[u8]) -> [usize; 8]
         child(rows, 6, 1),
         // Nat has no child: 0
         child(rows, 0, 1),
-    ]
+    ];
+    write_numbers(b"child", &values);
 }
 
 // Indices and levels: 4 and 3; Nat and ind have none: 0, 0.
-pub fn numbers(rows: &[u8]) -> [usize; 4]
+pub fn numbers(rows: &[u8])
     requires { ⌜ TermTable (now rows) 43 ⌝ }
 {
-    [
+    let values = [
         number(rows, 6),
         number(rows, 1),
         number(rows, 0),
         number(rows, 29),
-    ]
+    ];
+    write_numbers(b"number", &values);
 }
 
 // Equal terms have one row: yes, and no for any two rows.
-pub fn equal_terms(rows: &[u8]) -> [bool; 3]
+pub fn equal_terms(rows: &[u8])
     requires { ⌜ TermTable (now rows) 43 ⌝ }
 {
-    [
+    let answers = [
         same_term(rows, 9, 9),
         same_term(rows, 9, 10),
         same_term(rows, 29, 36),
-    ]
+    ];
+    write_answers(b"same", &answers);
 }
 
 // Raised terms.
-pub fn shifts(rows: &[u8]) -> [bool; 8]
+pub fn shifts(rows: &[u8])
     requires { ⌜ TermTable (now rows) 43 ⌝ }
 {
-    [
+    let answers = [
         // v0 raised by 2 is v2: yes; v1: no
         is_shifted(rows, 0, 2, 2, 4),
         is_shifted(rows, 0, 2, 2, 3),
@@ -130,14 +137,15 @@ pub fn shifts(rows: &[u8]) -> [bool; 8]
         // lambda(v1) becomes lambda(v2): yes, no
         is_shifted(rows, 0, 1, 9, 10),
         is_shifted(rows, 0, 1, 9, 9),
-    ]
+    ];
+    write_answers(b"shift", &answers);
 }
 
 // Raised terms with several children.
-pub fn deep_shifts(rows: &[u8]) -> [bool; 9]
+pub fn deep_shifts(rows: &[u8])
     requires { ⌜ TermTable (now rows) 43 ⌝ }
 {
-    [
+    let answers = [
         // Pi(v0, v0) becomes Pi(v1, v0): yes, no
         is_shifted(rows, 0, 1, 12, 13),
         is_shifted(rows, 0, 1, 12, 12),
@@ -152,14 +160,15 @@ pub fn deep_shifts(rows: &[u8]) -> [bool; 9]
         // a level is no index: U_3 stays: yes, no
         is_shifted(rows, 0, 1, 1, 1),
         is_shifted(rows, 0, 1, 1, 42),
-    ]
+    ];
+    write_answers(b"deep shift", &answers);
 }
 
 // A row put for index 0.
-pub fn put_rows(rows: &[u8]) -> [bool; 7]
+pub fn put_rows(rows: &[u8])
     requires { ⌜ TermTable (now rows) 43 ⌝ }
 {
-    [
+    let answers = [
         // v0[Nat] is Nat: yes
         is_substituted(rows, 0, Put::Row(0), 2, 0),
         // v1[Nat] is v0, lowered: yes; v1: no
@@ -171,14 +180,15 @@ pub fn put_rows(rows: &[u8]) -> [bool; 7]
         is_substituted(rows, 1, Put::Row(9), 2, 2),
         is_substituted(rows, 1, Put::Row(9), 3, 10),
         is_substituted(rows, 1, Put::Row(9), 3, 9),
-    ]
+    ];
+    write_answers(b"row put", &answers);
 }
 
 // A row put for index 0 under the binder of a Sigma.
-pub fn put_rows_under(rows: &[u8]) -> [bool; 7]
+pub fn put_rows_under(rows: &[u8])
     requires { ⌜ TermTable (now rows) 43 ⌝ }
 {
-    [
+    let answers = [
         // Sigma(Nat, v1)[v0] is Sigma(Nat, v1), as v0 is raised: yes; Sigma(Nat, v0): no
         is_substituted(rows, 0, Put::Row(2), 14, 14),
         is_substituted(rows, 0, Put::Row(2), 14, 15),
@@ -190,14 +200,15 @@ pub fn put_rows_under(rows: &[u8]) -> [bool; 7]
         // Sigma(Nat, v0)[v1] stays, as v0 is bound there: yes, no
         is_substituted(rows, 0, Put::Row(3), 15, 15),
         is_substituted(rows, 0, Put::Row(3), 15, 16),
-    ]
+    ];
+    write_answers(b"row put under a binder", &answers);
 }
 
 // zero, and first of a row, put for index 0.
-pub fn put_described(rows: &[u8]) -> [bool; 8]
+pub fn put_described(rows: &[u8])
     requires { ⌜ TermTable (now rows) 43 ⌝ }
 {
-    [
+    let answers = [
         // v0[zero] is zero: yes
         is_substituted(rows, 0, Put::Zero, 2, 7),
         // Sigma(Nat, v1)[zero] is Sigma(Nat, zero): yes
@@ -212,14 +223,15 @@ pub fn put_described(rows: &[u8]) -> [bool; 8]
         is_substituted(rows, 0, Put::First(2), 14, 19),
         // Sigma(Nat, v1)[first(v1)] is Sigma(Nat, first(v2)): no
         is_substituted(rows, 0, Put::First(3), 14, 19),
-    ]
+    ];
+    write_answers(b"zero or first put", &answers);
 }
 
 // succ of the outer variable for index 0, the others raised by 1.
-pub fn put_outer_succ(rows: &[u8]) -> [bool; 7]
+pub fn put_outer_succ(rows: &[u8])
     requires { ⌜ TermTable (now rows) 43 ⌝ }
 {
-    [
+    let answers = [
         // v0 becomes succ(v1), which has no row; 20 is succ(v2): no
         is_substituted(rows, 0, Put::OuterSucc, 2, 20),
         // Sigma(Nat, v1) becomes Sigma(Nat, succ(v2)), raised under the binder: yes
@@ -232,7 +244,8 @@ pub fn put_outer_succ(rows: &[u8]) -> [bool; 7]
         // lambda(v0) stays: yes, no
         is_substituted(rows, 0, Put::OuterSucc, 8, 8),
         is_substituted(rows, 0, Put::OuterSucc, 8, 9),
-    ]
+    ];
+    write_answers(b"succ put", &answers);
 }
 
 // Does row `u` spell row `t` with ind(p, a, b, c) for index 0, a for index 1, and the others lowered by 2?
@@ -244,10 +257,10 @@ fn is_both(rows: &[u8], p: usize, a: usize, b: usize, c: usize, t: usize, u: usi
 }
 
 // E-INDSUC: ind(P, a, b, c) for y and a for x, together.
-pub fn put_both(rows: &[u8]) -> [bool; 10]
+pub fn put_both(rows: &[u8])
     requires { ⌜ TermTable (now rows) 43 ⌝ }
 {
-    [
+    let answers = [
         // in 26, with y and x under a lambda, ind(v1, v0, v1, 26) and v0 give 32: yes; that ind has no row
         is_both(rows, 3, 2, 3, 26, 26, 32),
         // x and y exchanged: no
@@ -265,14 +278,15 @@ pub fn put_both(rows: &[u8]) -> [bool; 10]
         // in lambda(v1) ind(Pi(v0, v0), v0, v0, 26) gives 41, as P's own variable stays: yes; with Pi(v1, v0) for P: no
         is_both(rows, 12, 2, 2, 26, 9, 41),
         is_both(rows, 13, 2, 2, 26, 9, 41),
-    ]
+    ];
+    write_answers(b"both put", &answers);
 }
 
 // `tables::BARE` has no zero, first, succ or ind: where index 0 occurs, no row spells the result.
-pub fn put_without_rows(rows: &[u8]) -> [bool; 11]
+pub fn put_without_rows(rows: &[u8])
     requires { ⌜ TermTable (now rows) 6 ⌝ }
 {
-    [
+    let answers = [
         // zero: Nat and lambda(v0) stay: yes, yes; v0 does not: no
         is_substituted(rows, 0, Put::Zero, 0, 0),
         is_substituted(rows, 0, Put::Zero, 4, 4),
@@ -288,5 +302,6 @@ pub fn put_without_rows(rows: &[u8]) -> [bool; 11]
         is_both(rows, 0, 1, 0, 2, 3, 1),
         is_both(rows, 0, 1, 0, 2, 2, 1),
         is_both(rows, 0, 1, 0, 2, 1, 1),
-    ]
+    ];
+    write_answers(b"put without a row", &answers);
 }

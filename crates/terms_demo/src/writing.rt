@@ -4,7 +4,7 @@ use terms::sizes::check_terms;
 ghost use mathlib.Core.Path.{_≡_};
 ghost use Prim.Native.Nat.{_*_, _≤_};
 ghost use lib.ListN.{length};
-ghost use Rattle.terms.specs.Sizes.{checkTerms};
+ghost use Rattle.terms.specs.Sizes.{checkTerms, over};
 
 // `NAME N: yes` or `NAME N: no` for each answer, N from 1.
 pub fn write_answers(name: &[u8], answers: &[bool]) {
@@ -73,7 +73,8 @@ fn write_sizes(work: &[u32]) {
 // Checks the first `count` rows, and writes the answer and the work buffer that the check leaves.
 pub fn checked(rows: &[u8], count: usize, work: &mut [u32]) -> TermsAnswer
     requires { ⌜ (10 * count ≤ length (now rows)) × (count ≤ 3072) × (count ≤ length (now work)) ⌝ }
-    ensures { λ r. ⌜ r ≡ checkTerms (now (rows .entry)) count .answer ⌝ }
+    ensures answer { λ r. ⌜ r ≡ checkTerms (now (rows .entry)) count .answer ⌝ }
+    ensures sizes { λ _. ⌜ now (work .exit) ≡ over (checkTerms (now (rows .entry)) count .sizes) (now (work .entry)) ⌝ }
 {
     let answer = check_terms(rows, count, work);
     write_answer(answer);

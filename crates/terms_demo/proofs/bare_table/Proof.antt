@@ -26,11 +26,11 @@ checked-requires c κs = search needs
 enum-told : tie.Need-enum-told
 enum-told c = search needs
 
-slice-aggregate-write-bare-tests : tie.Need-slice-aggregate-write-bare-tests
-slice-aggregate-write-bare-tests c = search needs
+slice-aggregate-put-without-rows : tie.Need-slice-aggregate-put-without-rows
+slice-aggregate-put-without-rows c = search needs
 
-write-bare-tests-requires : tie.Need-write-bare-tests-requires
-write-bare-tests-requires c κs = sound-rows _ 6 _ (c .before .before .before .before .checked .ensures) (c .before .enum-told .given .1) (omega arith)
+put-without-rows-requires : tie.Need-put-without-rows-requires
+put-without-rows-requires c κs = sound-rows _ 6 _ (c .before .before .before .before .checked .ensures .0) (c .before .enum-told .given .1) (omega arith)
 
 enum-known-number : tie.Need-enum-known-number
 enum-known-number c = search needs
@@ -52,8 +52,8 @@ bare-table-spec =
     slice-aggregate-checked-2
     checked-requires
     enum-told
-    slice-aggregate-write-bare-tests
-    write-bare-tests-requires
+    slice-aggregate-put-without-rows
+    put-without-rows-requires
     enum-known-number
     returns
     returns-2)

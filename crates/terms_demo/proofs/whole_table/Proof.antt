@@ -5,11 +5,14 @@ use borrow.Author.Needs.{needs}
 use Rattle.terms_demo.proofs.whole_table.Statement.{statement}
 use Rattle.terms_demo.proofs.whole_table.Tie as tie
 
-slice-aggregate-fill-table : tie.Need-slice-aggregate-fill-table
-slice-aggregate-fill-table c = search needs
+slice-aggregate-fill : tie.Need-slice-aggregate-fill
+slice-aggregate-fill c = search needs
 
-fill-table-requires : tie.Need-fill-table-requires
-fill-table-requires c κs = search needs
+slice-aggregate-fill-2 : tie.Need-slice-aggregate-fill-2
+slice-aggregate-fill-2 c = search needs
+
+fill-requires : tie.Need-fill-requires
+fill-requires c κs = search needs
 
 slice-aggregate-checked : tie.Need-slice-aggregate-checked
 slice-aggregate-checked c = search needs
@@ -27,7 +30,7 @@ slice-aggregate-write-tests : tie.Need-slice-aggregate-write-tests
 slice-aggregate-write-tests c = search needs
 
 write-tests-requires : tie.Need-write-tests-requires
-write-tests-requires c κs = sound-rows _ 43 _ (c .before .before .before .before .checked .ensures) (c .before .enum-told .given .1) (omega arith)
+write-tests-requires c κs = sound-rows _ 43 _ (c .before .before .before .before .checked .ensures .0) (c .before .enum-told .given .1) (omega arith)
 
 enum-known-number : tie.Need-enum-known-number
 enum-known-number c = search needs
@@ -42,8 +45,9 @@ pub whole-table-spec : {M : Type 1} → statement M
 whole-table-spec =
     tie.close
     (tie.spec
-    slice-aggregate-fill-table
-    fill-table-requires
+    slice-aggregate-fill
+    slice-aggregate-fill-2
+    fill-requires
     slice-aggregate-checked
     slice-aggregate-checked-2
     checked-requires

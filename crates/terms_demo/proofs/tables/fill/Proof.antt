@@ -1,20 +1,22 @@
--- The buffer keeps its length, so byte i is one of the rows' bytes.
+-- The buffer keeps its length, and the bytes before i are those of the rows.
 use Prim.Native.Nat.{_≤_, _-_}
 use mathlib.Core.Path.{_≡_, refl}
 use lib.ListN.{length}
 use native.Mathlib.Omega.{arith}
 use borrow.Author.Needs.{needs}
+use Rattle.terms_demo.specs.Tables.{byteIn, Filled}
+use Rattle.terms_demo.proofs.FillLaws.{fill-more}
 use Rattle.terms_demo.proofs.tables.fill.Statement.{statement}
 use Rattle.terms_demo.proofs.tables.fill.Tie as tie
 
 abbrev Inv-loop : tie.InvT-loop
-Inv-loop rows out₀ i₀ out i = (length out ≡ length out₀) × (i ≤ length out₀)
+Inv-loop rows out₀ i₀ out i = (length out ≡ length out₀) × (i ≤ length out₀) × Filled rows out i
 
 abbrev μ-loop : tie.MeasureT-loop
 μ-loop rows out₀ i₀ out i = length out₀ - i
 
 loop-holds : tie.Need-loop-holds Inv-loop μ-loop
-loop-holds c = (refl, omega arith)
+loop-holds c = (refl, omega arith, λ i h. absurd (omega arith))
 
 mul-out : tie.Need-mul-out Inv-loop μ-loop
 mul-out c = search needs
@@ -35,13 +37,14 @@ loop-less : tie.Need-loop-less Inv-loop μ-loop
 loop-less c = omega arith
 
 loop-again : tie.Need-loop-again Inv-loop μ-loop
-loop-again c = search needs
+unfolding byteIn
+loop-again c = (search needs, search needs, fill-more (c .before .before .before .args .rows .now) (c .before .before .loop .out) (c .before .before .loop .i) (search needs) (c .before .before .loop .inv .2))
 
 same-length : tie.Need-same-length Inv-loop μ-loop
 same-length c = search needs
 
 returns : tie.Need-returns Inv-loop μ-loop
-returns c = search needs
+returns c i h = c .before .loop .inv .2 i (omega (arith, c .loop-test .left, c .before .loop .inv .0))
 
 pub fill-spec : {M : Type 1} → statement M
 fill-spec =

@@ -44,6 +44,15 @@ is-node-requires-12 c κs = in-table _ (c .before .before .before .before .befor
 is-node-requires-13 : tie.Need-is-node-requires-13
 is-node-requires-13 c κs = in-table _ (c .before .before .before .before .before .before .before .before .before .before .before .before .before .pre) refl refl
 
+slice-aggregate-write-answers : tie.Need-slice-aggregate-write-answers
+slice-aggregate-write-answers c = search needs
+
+slice-aggregate-write-answers-2 : tie.Need-slice-aggregate-write-answers-2
+slice-aggregate-write-answers-2 c = search needs
+
+write-answers-requires : tie.Need-write-answers-requires
+write-answers-requires c κs = search needs
+
 returns : tie.Need-returns
 returns c = search needs
 
@@ -64,4 +73,7 @@ other-nodes-spec =
     is-node-requires-11
     is-node-requires-12
     is-node-requires-13
+    slice-aggregate-write-answers
+    slice-aggregate-write-answers-2
+    write-answers-requires
     returns)

@@ -36,6 +36,15 @@ is-both-requires-9 c κs = (in-table _ (c .before .before .before .before .befor
 is-both-requires-10 : tie.Need-is-both-requires-10
 is-both-requires-10 c κs = (in-table _ (c .before .before .before .before .before .before .before .before .before .before .pre) refl refl, omega arith)
 
+slice-aggregate-write-answers : tie.Need-slice-aggregate-write-answers
+slice-aggregate-write-answers c = search needs
+
+slice-aggregate-write-answers-2 : tie.Need-slice-aggregate-write-answers-2
+slice-aggregate-write-answers-2 c = search needs
+
+write-answers-requires : tie.Need-write-answers-requires
+write-answers-requires c κs = search needs
+
 returns : tie.Need-returns
 returns c = search needs
 
@@ -53,4 +62,7 @@ put-both-spec =
     is-both-requires-8
     is-both-requires-9
     is-both-requires-10
+    slice-aggregate-write-answers
+    slice-aggregate-write-answers-2
+    write-answers-requires
     returns)

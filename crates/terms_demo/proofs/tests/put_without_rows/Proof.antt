@@ -39,6 +39,15 @@ is-both-requires-2 c κs = (in-table _ (c .before .before .before .before .befor
 is-both-requires-3 : tie.Need-is-both-requires-3
 is-both-requires-3 c κs = (in-table _ (c .before .before .before .before .before .before .before .before .before .before .before .pre) refl refl, omega arith)
 
+slice-aggregate-write-answers : tie.Need-slice-aggregate-write-answers
+slice-aggregate-write-answers c = search needs
+
+slice-aggregate-write-answers-2 : tie.Need-slice-aggregate-write-answers-2
+slice-aggregate-write-answers-2 c = search needs
+
+write-answers-requires : tie.Need-write-answers-requires
+write-answers-requires c κs = search needs
+
 returns : tie.Need-returns
 returns c = search needs
 
@@ -57,4 +66,7 @@ put-without-rows-spec =
     is-both-requires
     is-both-requires-2
     is-both-requires-3
+    slice-aggregate-write-answers
+    slice-aggregate-write-answers-2
+    write-answers-requires
     returns)
