@@ -5,9 +5,13 @@
  * buffers is proved: the contracts stand in crates/mengyubad/src/lib.rt, and the comments here say them in words. docs/FORMAT.md
  * describes sheets.
  *
- * What C owes: no pointer is null, even where its length is 0; each points to as many elements as its length says; no two buffers
- * overlap; 1 MB of stack is free (terms are walked by recursion, at most 3,072 levels deep). Any bytes, lengths and numbers may be
- * handed over. The functions have no state of their own, allocate nothing and keep no pointer.
+ * What C owes: no pointer is null, even where its length is 0; each points to as many elements as its length says; no
+ * two buffers overlap; MENGYUBAD_STACK_BYTES of stack are free. Any bytes, lengths and numbers may be handed over. The
+ * functions have no state of their own, allocate nothing and keep no pointer.
+ *
+ * Stack: terms are walked by recursion, at most 3,072 levels deep. Measured by tests/c/stack.c: a level takes 240 bytes
+ * where a term is substituted in and fewer where it is raised, and the rest 12.6 KB, so that 3,072 levels take 750 KB.
+ * The deepest walk of a sheet that it builds, some 2,030 levels, takes 452 KB.
  *
  * Every function returns 0, or the number of a refusal, and sets all three words of `values`:
  *   0       mengyubad_admit: T, C, L; mengyubad_find: the line, 0, 0; mengyubad_withdraw: the new length, 0, 0
@@ -32,6 +36,9 @@ extern "C" {
 
 /* Limits of the format: the terms of a sheet, and its bytes. */
 enum { MENGYUBAD_MOST_TERMS = 3072, MENGYUBAD_MOST_BYTES = 52240 };
+
+/* The stack that a call may take. */
+enum { MENGYUBAD_STACK_BYTES = 786432 };
 
 /* What the functions return. The comment names the place. */
 enum mengyubad_number {

@@ -59,16 +59,18 @@ fn stated(sheet: &[u8]) -> (usize, usize) {
     (word(0).min(3072), word(4).min(1024))
 }
 
-/// What a list asks of a sheet: no number, a line to withdraw, or a judgment to find; and how many values the answer prints.
-fn asked(numbers: &[usize]) -> (Call, usize) {
+/// What a list asks of a sheet: no number, a line to withdraw with or without the output's length, or a judgment to
+/// find; then how many values the answer prints, and the output's length.
+fn asked(numbers: &[usize]) -> (Call, usize, usize) {
     match *numbers {
-        [] => (Call::Admit, 3),
-        [line] => (Call::Withdraw(line), 1),
+        [] => (Call::Admit, 3, 0),
+        [line] => (Call::Withdraw(line), 1, 52240),
+        [line, room] => (Call::Withdraw(line), 1, room),
         [form, context, s1, s2, s3] => {
             let wanted = [form, context, s1, s2, s3].map(|n| n as u32);
-            (Call::Find(wanted), 1)
+            (Call::Find(wanted), 1, 0)
         }
-        _ => panic!("a list asks with none, one or five numbers"),
+        _ => panic!("a list asks with none, one, two or five numbers"),
     }
 }
 
@@ -90,8 +92,8 @@ fn samples_are_answered_as_listed() {
             .iter()
             .skip(1)
             .map(|w| w.parse().expect("a number"));
-        let (call, values) = asked(&numbers.collect::<Vec<usize>>());
-        let (answer, out) = alike(&mut checker, &sheet, call, 3072, sheet.len());
+        let (call, values, room) = asked(&numbers.collect::<Vec<usize>>());
+        let (answer, out) = alike(&mut checker, &sheet, call, 3072, room);
         assert_eq!(printed(answer, values), words[at..].join(" "), "{line}");
         if let (Call::Withdraw(_), 0) = (call, answer.number) {
             written = out[..answer.values[0]].to_vec();

@@ -1,5 +1,5 @@
 //! The proved checker, as safe functions. Nothing checks these declarations against the Rattle source: they follow include/mengyubad.h.
-//! A call takes up to 1 MB of stack, so a thread that calls should have more.
+//! A call may take up to 768 KiB of stack (MENGYUBAD_STACK_BYTES), so a thread that calls should have more.
 
 mod c {
     extern "C" {

@@ -1,7 +1,16 @@
 // Admits the sheet on standard input, and prints `ok` with its counts or `refused` with number and place.
-use answers::runs::run_admission;
+use answers::input::read_sheet;
+use answers::replies::admission_reply;
 use libc::STDIN_FILENO;
+use libc::STDOUT_FILENO;
 
 fn main() {
-    run_admission(STDIN_FILENO);
+    let mut sheet = [0u8; 52241];
+    let input = read_sheet(STDIN_FILENO, &mut sheet);
+    let length = input.length;
+    if input.whole {
+        let mut line = [0u8; 80];
+        let count = admission_reply(&sheet[..length], &mut line);
+        io::write_all(STDOUT_FILENO, &line[..count]);
+    }
 }

@@ -1,4 +1,5 @@
-// What the programs share: numbers in text, answers as lines of text, and a sheet answered from a descriptor.
-pub mod lines;
+// What the programs share: numbers in text, a sheet read from a descriptor, and the line of text that answers it.
+pub mod input;
+mod lines;
 pub mod numbers;
-pub mod runs;
+pub mod replies;

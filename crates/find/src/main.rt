@@ -1,13 +1,16 @@
 // Finds the line of the sheet on standard input that has the five numbers of the arguments, and prints `ok` with the line
 // or `refused` with number and place.
+use answers::input::read_sheet;
 use answers::numbers::Field;
 use answers::numbers::Request;
 use answers::numbers::field_of;
 use answers::numbers::read_number;
 use answers::numbers::request_of;
-use answers::runs::run_search;
+use answers::replies::search_reply;
 use libc::STDERR_FILENO;
 use libc::STDIN_FILENO;
+use libc::STDOUT_FILENO;
+use sheets::finding::Wanted;
 
 // The number that argument `i` spells. One that is missing or too long counts as empty.
 fn argument(i: usize) -> Field {
@@ -30,9 +33,21 @@ fn request() -> Request {
     )
 }
 
+// Searches the sheet on standard input.
+fn find_input(wanted: Wanted) {
+    let mut sheet = [0u8; 52241];
+    let input = read_sheet(STDIN_FILENO, &mut sheet);
+    let length = input.length;
+    if input.whole {
+        let mut line = [0u8; 80];
+        let count = search_reply(&sheet[..length], wanted, &mut line);
+        io::write_all(STDOUT_FILENO, &line[..count]);
+    }
+}
+
 fn main() {
     match request() {
-        Request::Judgment(wanted) => run_search(STDIN_FILENO, wanted),
+        Request::Judgment(wanted) => find_input(wanted),
         Request::Unreadable => {
             io::write_all(
                 STDERR_FILENO,

@@ -1,1 +1,3 @@
 pub mod CaseLaws
+pub mod ReaderLaws
+pub mod WordBufferLaws

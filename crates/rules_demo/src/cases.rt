@@ -9,7 +9,7 @@ ghost use Prim.Native.Nat.{_+_, _*_, _<_, _≤_};
 ghost use lib.ListN.{length};
 ghost use Rattle.terms.specs.Decides.{Decides};
 ghost use Rattle.rules.specs.Stated.{Numbered, Follows};
-ghost use Rattle.rules_demo.specs.Cases.{Tables, Case, Answered};
+ghost use Rattle.rules_demo.specs.Cases.{caseJudgment, Tables, Case, Answered};
 
 pub enum Answer {
     Instance,
@@ -20,6 +20,7 @@ pub enum Answer {
 // Judgment `j` of case `number`: the conclusion is 0, the premises 1 to 4.
 fn judgment_at(cases: &[u8], number: usize, j: usize) -> LineJudgment
     requires { ⌜ (52 * number + 52 ≤ length (now cases)) × (j < 5) ⌝ }
+    ensures { λ r. ⌜ r ≡ caseJudgment (now (cases .entry)) number j ⌝ }
 {
     let at = 26 * number + 5 * j + 1;
     LineJudgment {

@@ -1,10 +1,13 @@
-// Reads the decimal numbers of a text, parted by blanks, as words. A comment goes from # to the end of its line.
+// Reads the decimal numbers of a text, parted by any other byte, as words. A comment goes from # to its line's end.
 ghost use mathlib.Core.Path.{_≡_};
+ghost use mathlib.Core.List.{[], _∷_};
 ghost use Prim.Native.Nat.{_*_, _<_, _≤_};
 ghost use lib.ListN.{length};
+ghost use Rattle.rules_demo.specs.Numbers.{placeBehind, nextPlace, ended, numbersIn};
+ghost use Rattle.rules_demo.specs.WordBuffer.{WordsPut};
 
 // Where a text's reader stands.
-enum Place {
+pub enum Place {
     Blank,
     Comment,
     Number(usize),
@@ -18,7 +21,9 @@ fn wide(byte: u8) -> usize
 }
 
 // The place behind a byte that is in no comment, where `value` is what the digits before it spell.
-fn behind(value: usize, byte: u8) -> Place {
+fn behind(value: usize, byte: u8) -> Place
+    ensures { λ r. ⌜ r ≡ placeBehind value byte ⌝ }
+{
     match byte {
         35 => Place::Comment,
         48..=57 => Place::Number((10 * (value % 65536) + wide(byte - 48)) % 65536),
@@ -26,7 +31,10 @@ fn behind(value: usize, byte: u8) -> Place {
     }
 }
 
-fn next_place(place: Place, byte: u8) -> Place {
+// The place behind a byte.
+fn next_place(place: Place, byte: u8) -> Place
+    ensures { λ r. ⌜ r ≡ nextPlace place byte ⌝ }
+{
     match place {
         Place::Blank => behind(0, byte),
         Place::Number(value) => behind(value, byte),
@@ -42,7 +50,7 @@ fn next_place(place: Place, byte: u8) -> Place {
 // Puts a word behind the first `count`, if there is room, and answers how many there are then.
 fn put(out: &mut [u8], count: usize, value: usize) -> usize
     requires { ⌜ 2 * count ≤ length (now out) ⌝ }
-    ensures { λ r. ⌜ 2 * r ≤ length (now (out .exit)) ⌝ }
+    ensures { λ r. ⌜ WordsPut (now (out .entry)) count (value ∷ []) (now (out .exit)) r ⌝ }
 {
     let at = 2 * count;
     if out.len() - at < 2 {
@@ -56,7 +64,7 @@ fn put(out: &mut [u8], count: usize, value: usize) -> usize
 // Puts the number that ends between the two places, if one does.
 fn put_ended(out: &mut [u8], count: usize, place: Place, next: Place) -> usize
     requires { ⌜ 2 * count ≤ length (now out) ⌝ }
-    ensures { λ r. ⌜ 2 * r ≤ length (now (out .exit)) ⌝ }
+    ensures { λ r. ⌜ WordsPut (now (out .entry)) count (ended place next) (now (out .exit)) r ⌝ }
 {
     let Place::Number(value) = place else {
         return count;
@@ -67,9 +75,9 @@ fn put_ended(out: &mut [u8], count: usize, place: Place, next: Place) -> usize
     put(out, count, value)
 }
 
-// Puts the numbers of a text, each with a byte behind it, and answers how many they are.
+// Puts the numbers of a text, each with a byte behind it, as far as there is room, and answers how many they are.
 fn put_all(text: &[u8], out: &mut [u8]) -> usize
-    ensures { λ r. ⌜ 2 * r ≤ length (now (out .exit)) ⌝ }
+    ensures { λ r. ⌜ WordsPut (now (out .entry)) 0 (numbersIn (now (text .entry))) (now (out .exit)) r ⌝ }
 {
     let mut count = 0;
     let mut place = Place::Blank;
@@ -83,7 +91,7 @@ fn put_all(text: &[u8], out: &mut [u8]) -> usize
     count
 }
 
-// Puts the numbers of a file.
+// Puts the numbers of a file. No contract can say what is read, so that only the room is promised.
 pub fn load(path: &[u8], out: &mut [u8]) -> usize
     ensures { λ r. ⌜ 2 * r ≤ length (now (out .exit)) ⌝ }
 {

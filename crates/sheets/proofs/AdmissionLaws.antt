@@ -4,10 +4,9 @@
 use mathlib.Core.Path.{_≡_, refl, sym, _∙_, ap, subst}
 use mathlib.Core.Logic.{_↔_}
 use mathlib.Core.List.{List}
-use Prim.Native.Nat.{ℕ, _+_, _-_, _*_, _≤_}
+use Prim.Native.Nat.{ℕ, _*_, _≤_}
 use native.Mathlib.Omega.{arith}
-use lib.ListN.{length, getD, drop, length-append, length-drop, List·getD-append}
-use lib.Seq.{getD-append-add, getD-drop}
+use lib.ListN.{length, drop, length-drop, List·getD-append}
 use Rattle.terms.specs.Table.{TermTable, RowFault, broken, repeated, large, TreeSizes}
 use Rattle.terms.specs.Sizes.{checkTerms, over}
 use Rattle.terms.specs.declared.sizes.TermsAnswer.{TermsAnswer}
@@ -26,6 +25,7 @@ use Rattle.sheets.specs.Layout.{contextsIn, trailerOf}
 use Rattle.sheets.specs.Lines.{checkLines}
 use Rattle.sheets.specs.Admission.{afterLines, afterContexts, afterTerms, afterLayout, admitOf, workFrom, workAfter}
 use Rattle.sheets.specs.Good.{LaidOut, Tabled, Good, LayoutFault, wrongLength, notMarked, disagreeing, shortWork, LineFault, misfit, noInstance, FirstFault, inLayout, inTerms, inContexts, inLines, SizesLeft, WorkLeft, trailerFor}
+use Rattle.sheets.proofs.BufferLaws.{over-length, over-beyond}
 use Rattle.sheets.proofs.LayoutLaws.{LayoutMeans, counted, wrong, layout-means, counted-is, wrong-is}
 use Rattle.sheets.proofs.LineCheckLaws.{lines-sound, lines-faulty}
 
@@ -33,16 +33,10 @@ use Rattle.sheets.proofs.LineCheckLaws.{lines-sound, lines-faulty}
 sizes-left : (bytes : List ℕ) (k : ℕ) (sizes before : List ℕ) → TreeSizes bytes k sizes → k ≤ length before → SizesLeft bytes k before (over sizes before)
 sizes-left bytes k sizes before s h =
     record {
-      long = length-append sizes (drop (length sizes) before) ∙ ap (λ m. length sizes + m) (length-drop (length sizes) before) ∙ joined;
+      long = over-length sizes before (omega (arith, s .long));
       sizes = λ i l. List·getD-append sizes (drop (length sizes) before) 0 i (omega (arith, s .long)) ∙ s .each i l;
-      beyond = λ i l.
-          let e : i ≡ length sizes + (i - length sizes) = omega (arith, s .long) in
-          subst (λ m. getD (over sizes before) m 0 ≡ getD before m 0) (sym e)
-          (getD-append-add sizes (drop (length sizes) before) (i - length sizes) 0 ∙ getD-drop (length sizes) before (i - length sizes) 0);
+      beyond = λ i l. over-beyond sizes before i (omega (arith, s .long));
     }
-  where
-    joined : length sizes + (length before - length sizes) ≡ length before
-    joined = omega (arith, s .long)
 
 -- the tables of a sheet that is laid out are whole
 module _ {bytes : List ℕ} {T C L : ℕ} (laid : LaidOut bytes T C L) where
@@ -162,9 +156,19 @@ module _ (bytes : List ℕ) (before : List ℕ) where
     left-all : TermTable bytes T → SizesLeft bytes T before (workAfter bytes before)
     left-all terms = left-sizes T (omega arith) (sound-sizes bytes T (whole-terms laid) terms)
 
-    left-counted : TermTable bytes T → SizesLeft bytes (trailerOf bytes .terms) before (workAfter bytes before)
+    pub left-counted : TermTable bytes T → SizesLeft bytes (trailerOf bytes .terms) before (workAfter bytes before)
     unfolding trailerFor
     left-counted terms = subst (λ t. SizesLeft bytes (t .terms) before (workAfter bytes before)) (sym (laid .trailer)) (left-all terms)
+
+    -- from number 8 on the terms are right
+    pub left-wholly : TermTable bytes T → (number place : ℕ) → 8 ≤ number
+        → WorkLeft bytes before (workAfter bytes before) number place
+    left-wholly terms number place h =
+        record {
+          untouched = λ k. absurd (omega arith);
+          partly = λ k l. absurd (omega arith);
+          wholly = λ k. left-counted terms;
+        }
 
   -- the work buffer after a sheet is admitted
   pub accepted-left : (T C L : ℕ) → admitOf bytes (length before) ≡ Accepted T C L → SizesLeft bytes T before (workAfter bytes before)
@@ -172,7 +176,8 @@ module _ (bytes : List ℕ) (before : List ℕ) where
       let g = accepted-is bytes (length before) T C L .0 e in
       left-all (g .0 .tables .laid) (g .1) (g .0 .tables .terms)
 
-  fault-left : {number place : ℕ} → FirstFault bytes (length before) number place → WorkLeft bytes before (workAfter bytes before) number place
+  pub fault-left : {number place : ℕ} → FirstFault bytes (length before) number place
+      → WorkLeft bytes before (workAfter bytes before) number place
   unfolding workAfter workFrom
   fault-left (inLayout {number} f) =
       let n = layout-number f in
@@ -188,11 +193,9 @@ module _ (bytes : List ℕ) (before : List ℕ) where
         partly = λ h k. left-sizes laid room place (omega (arith, f .within)) (faulty-sizes bytes T (whole-terms laid) number place (check-faulty bytes T (whole-terms laid) number place .1 f));
         wholly = λ h. absurd (omega arith);
       }
-  fault-left (inContexts T C L laid room terms f) =
-      record { untouched = λ h. absurd (omega arith); partly = λ h k. absurd (omega arith); wholly = λ h. left-counted laid room terms }
-  fault-left (inLines T C L t room f) =
-      let n = line-number (f .fault) in
-      record { untouched = λ h. absurd (omega arith); partly = λ h k. absurd (omega arith); wholly = λ h. left-counted (t .laid) room (t .terms) }
+  fault-left (inContexts {place} T C L laid room terms f) = left-wholly laid room terms 8 place (omega arith)
+  fault-left (inLines {number} {place} T C L t room f) =
+      left-wholly (t .laid) room (t .terms) number place (omega (arith, line-number (f .fault)))
 
   -- and after a refusal
   pub refused-left : (number place : ℕ) → admitOf bytes (length before) ≡ Refused number place → WorkLeft bytes before (workAfter bytes before) number place

@@ -1,5 +1,6 @@
 pub mod CasesHold
 pub mod TestLaws
+pub mod BufferLaws
 pub mod LayoutLaws
 pub mod LineLaws
 pub mod LineCheckLaws
@@ -13,3 +14,4 @@ pub mod SheetWithout
 pub mod WithdrawalLaws
 pub mod WithdrawalAnswers
 pub mod AnsweredLaws
+pub mod OutputLaws

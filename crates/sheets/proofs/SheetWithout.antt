@@ -28,6 +28,7 @@ use Rattle.sheets.specs.Lines.{lineWord, lineOf, judgmentOf, premisesOf,
 use Rattle.sheets.specs.Good.{trailerFor, LaidOut, LineOk, GoodLine, Good}
 use Rattle.sheets.specs.Accepted.{listed, statedBy}
 use Rattle.sheets.specs.Withdrawal.{without, Uses, lowerPremise, lowered, trailerLoses, oldPlace, newWord, linesStart, linesEnd, sheetWithout, Unused}
+use Rattle.sheets.specs.Output.{MovedLine, LineAway}
 use Rattle.sheets.proofs.TestLaws.{refutes, says-le, says-lt}
 use Rattle.sheets.proofs.WrittenLaws.{written-length, word-written, word-drop}
 use Rattle.sheets.proofs.AcceptedLaws.{stated-is}
@@ -192,7 +193,7 @@ module _ (b : List ℕ) (T C L n : ℕ) (g : Good b T C L) (there : n < L) where
   unfolding sheetWithout
   new-long = omega (arith, written-length (newWord b (linesStart T C) (linesEnd T C L) n) (linesEnd T C L + 8))
 
-  word-new : (i : ℕ) → i < linesEnd T C L + 8 → wordAt new i ≡ newWord b (linesStart T C) (linesEnd T C L) n i
+  pub word-new : (i : ℕ) → i < linesEnd T C L + 8 → wordAt new i ≡ newWord b (linesStart T C) (linesEnd T C L) n i
   unfolding sheetWithout
   word-new i h = word-written (newWord b (linesStart T C) (linesEnd T C L) n) (linesEnd T C L + 8) i h
 
@@ -321,27 +322,43 @@ module _ (b : List ℕ) (T C L n : ℕ) (g : Good b T C L) (there : n < L) where
           ap (wordAt b) (old-line (linesStart T C) n m j k)
           ∙ sym (word-drop b (10 * T + 4 * C) (linesStart T C) (10 * up n m + j) (omega arith))
 
+  line-field : (m j : ℕ) → m < L - 1 → j < 6 → lineWord (linesIn new T C) m j ≡ lineWord (linesIn b T C) (up n m) j
+  line-field m j h k = line-word m j h (omega arith) ∙ lowered-field n j _ k
+
+  line-premise : (m j : ℕ) → m < L - 1 → 6 ≤ j → j < 10
+      → lineWord (linesIn new T C) m j ≡ lowerPremise n (lineWord (linesIn b T C) (up n m) j)
+  line-premise m j h l k = line-word m j h k ∙ lowered-premise n j _ l
+
+  -- the new sheet is the old one without line n, word by word
+  pub line-away : LineAway b new T C L n
+  line-away =
+      record {
+        tables = head-word;
+        before = λ k h. moved k (omega arith) k (up-before n k h);
+        behind = λ k h l. moved k (omega arith) (suc k) (up-behind n k h);
+        laid = laid;
+      }
+    where
+      moved : (k : ℕ) → k < L - 1 → (m : ℕ) → up n k ≡ m → MovedLine n (linesIn b T C) (linesIn new T C) m k
+      moved k h m e =
+          subst (λ i. MovedLine n (linesIn b T C) (linesIn new T C) i k) e
+          (record { fields = λ j l. line-field k j h l; premises = λ j low high. line-premise k j h low high })
+
   line-new : (m : ℕ) → m < L - 1 → lineAt new T C m ≡ lowerLine n (lineAt b T C (up n m))
   unfolding lineAt lineOf lowerLine
   line-new m h =
       λ i. record {
-        form = field 0 (omega arith) i;
-        rule = field 1 (omega arith) i;
-        context = field 2 (omega arith) i;
-        s1 = field 3 (omega arith) i;
-        s2 = field 4 (omega arith) i;
-        s3 = field 5 (omega arith) i;
-        p0 = premise 6 (omega arith) (omega arith) i;
-        p1 = premise 7 (omega arith) (omega arith) i;
-        p2 = premise 8 (omega arith) (omega arith) i;
-        p3 = premise 9 (omega arith) (omega arith) i;
+        form = line-field m 0 h (omega arith) i;
+        rule = line-field m 1 h (omega arith) i;
+        context = line-field m 2 h (omega arith) i;
+        s1 = line-field m 3 h (omega arith) i;
+        s2 = line-field m 4 h (omega arith) i;
+        s3 = line-field m 5 h (omega arith) i;
+        p0 = line-premise m 6 h (omega arith) (omega arith) i;
+        p1 = line-premise m 7 h (omega arith) (omega arith) i;
+        p2 = line-premise m 8 h (omega arith) (omega arith) i;
+        p3 = line-premise m 9 h (omega arith) (omega arith) i;
       }
-    where
-      field : (j : ℕ) → j < 6 → lineWord (linesIn new T C) m j ≡ lineWord (linesIn b T C) (up n m) j
-      field j k = line-word m j h (omega arith) ∙ lowered-field n j _ k
-
-      premise : (j : ℕ) → 6 ≤ j → j < 10 → lineWord (linesIn new T C) m j ≡ lowerPremise n (lineWord (linesIn b T C) (up n m) j)
-      premise j l k = line-word m j h k ∙ lowered-premise n j _ l
 
   up-within : (m : ℕ) → m < L - 1 → up n m < L
   up-within m h = at (decLt m n)

@@ -23,6 +23,7 @@ use Rattle.sheets.specs.Admission.{admitOf}
 use Rattle.sheets.specs.Good.{Good}
 use Rattle.sheets.specs.Accepted.{listed}
 use Rattle.sheets.specs.Withdrawal.{bytesOf, uses, KnownRules, firstUseFrom, firstUse, newLength, afterUse, afterLine, withdrawAfter, withdrawOf, lowered, trailerLoses, oldPlace, newWord, linesStart, linesEnd, sheetWithout, outFrom, outAfter, Withdrawn}
+use Rattle.sheets.proofs.BufferLaws.{over-length}
 use Rattle.sheets.proofs.AdmissionLaws.{accepted-is}
 use Rattle.sheets.proofs.LineAnswers.{part-is}
 use Rattle.sheets.proofs.WrittenLaws.{written, written-length, written-next}
@@ -135,12 +136,9 @@ module _ (f : ℕ → ℕ) (count : ℕ) (before : List ℕ) where
       filling-next =
           record {
             within = omega arith;
-            long = ap length (two ∙ sym three) ∙ whole;
+            long = ap length (two ∙ sym three) ∙ over-length (written f (i + 1)) before (omega (arith, written-length f (i + 1)));
             filled = two ∙ sym three;
           }
-        where
-          whole : length (over (written f (i + 1)) before) ≡ length before
-          whole = omega (arith, length-append (written f (i + 1)) (drop (length (written f (i + 1))) before), length-drop (length (written f (i + 1))) before, written-length f (i + 1))
 
 -- `withdraw_line`
 module _ (b : List ℕ) (T C L n : ℕ) (g : Good b T C L) where

@@ -238,6 +238,16 @@ module _ (bytes : List ℕ) (n work : ℕ) (before : List ℕ) where
     unfolding withoutLine trailerFor
     without-counted = ap (λ t. sheetWithout bytes (t .terms) (t .contexts) (t .lines) n) (g .tables .laid .trailer)
 
+    pub without-long : n < L → length (withoutLine bytes n) ≡ newLength T C L
+    unfolding newLength
+    without-long h = ap length without-counted ∙ new-long bytes T C L n g h
+
+    -- the output up to the new length
+    pub new-sheet : n < L → take (newLength T C L) (over (withoutLine bytes n) before) ≡ sheetWithout bytes T C L n
+    new-sheet h =
+        take-at (withoutLine bytes n) (drop (length (withoutLine bytes n)) before) (newLength T C L) (without-long h)
+        ∙ without-counted
+
     on-means : {a : Withdrawal} → WithdrawalMeans bytes T C L n (length before) a → Withdrawn bytes n (outFrom bytes n before a) a
     unfolding Withdrawn outFrom newLength
     on-means (missing h) = tt
@@ -245,12 +255,9 @@ module _ (bytes : List ℕ) (n work : ℕ) (before : List ℕ) where
     on-means (short h u k) = tt
     on-means (written h u k) = (
       good-accepted g,
-      subst IsAccepted (sym new) (good-accepted (good-without bytes T C L n g h u)),
-      ap statedBy new ∙ stated-without bytes T C L n g h u,
+      subst IsAccepted (sym (new-sheet h)) (good-accepted (good-without bytes T C L n g h u)),
+      ap statedBy (new-sheet h) ∙ stated-without bytes T C L n g h u,
     )
-      where
-        new : take (newLength T C L) (over (withoutLine bytes n) before) ≡ sheetWithout bytes T C L n
-        new = take-at (withoutLine bytes n) (drop (length (withoutLine bytes n)) before) (newLength T C L) (ap length without-counted ∙ new-long bytes T C L n g h) ∙ without-counted
 
   on-admission : (a : Admission) → admitOf bytes work ≡ a → Withdrawn bytes n (outFrom bytes n before (withdrawAfter bytes n (length before) a)) (withdrawAfter bytes n (length before) a)
   unfolding Withdrawn withdrawAfter

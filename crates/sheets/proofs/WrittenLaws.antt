@@ -1,6 +1,6 @@
 -- Bytes from words, low byte first: what is written is read back, from the head and from behind a part that is left out.
 -- Assumes nothing.
-use mathlib.Core.Path.{_≡_, refl, _∙_, ap}
+use mathlib.Core.Path.{_≡_, refl, sym, _∙_, ap}
 use mathlib.Core.List.{List, [], _∷_, _++_}
 use Prim.Native.Nat.{ℕ, zero, suc, _+_, _*_, _/_, _%_, _<_}
 use native.Mathlib.Omega.{arith}
@@ -42,6 +42,22 @@ unfolding bytesOf listed wordAt
 word-written f zero i h = absurd (omega arith)
 word-written f (suc n) zero h = omega arith
 word-written f (suc n) (suc i) h = word-next (f 0 % 256) (f 0 / 256) (written (λ k. f (suc k)) n) i ∙ word-written (λ k. f (suc k)) n i (omega arith)
+
+-- bytes of which each word is known are the bytes of these words
+pub written-only : (f : ℕ → ℕ) (n : ℕ) (l : List ℕ) → AllBelow 256 l → length l ≡ 2 * n
+    → ((i : ℕ) → i < n → wordAt l i ≡ f i) → l ≡ written f n
+unfolding bytesOf listed wordAt
+written-only f zero [] b e h = refl
+written-only f zero (x ∷ l) b e h = absurd (omega arith)
+written-only f (suc n) [] b e h = absurd (omega arith)
+written-only f (suc n) (x ∷ []) b e h = absurd (omega arith)
+written-only f (suc n) (x ∷ y ∷ l) b e h =
+    let w : x + 256 * y ≡ f 0 = h 0 (omega arith) in
+    let low : x ≡ f 0 % 256 = omega (arith, b .0) in
+    let high : y ≡ f 0 / 256 = omega (arith, b .0) in
+    let words : (i : ℕ) → i < n → wordAt l i ≡ f (suc i) = λ i k. sym (word-next x y l i) ∙ h (suc i) (omega arith) in
+    let rest : l ≡ written (λ i. f (suc i)) n = written-only (λ i. f (suc i)) n l (b .1 .1) (omega arith) words in
+    λ i. low i ∷ high i ∷ rest i
 
 -- the words behind the first m
 pub word-drop : (l : List ℕ) (k m i : ℕ) → k ≡ 2 * m → wordAt (drop k l) i ≡ wordAt l (m + i)

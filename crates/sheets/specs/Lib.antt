@@ -5,5 +5,6 @@ pub mod Finding
 pub mod Good
 pub mod Accepted
 pub mod Withdrawal
+pub mod Output
 pub mod Answered
 pub mod Cases

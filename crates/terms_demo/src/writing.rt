@@ -55,7 +55,9 @@ fn write_answer(answer: TermsAnswer) {
     io::write_all(1, b"\nsizes");
 }
 
-fn wide(size: u32) -> u64 {
+fn wide(size: u32) -> u64
+    ensures { λ r. ⌜ r ≡ size ⌝ }
+{
     size as u64
 }
 

@@ -1,12 +1,12 @@
 // Withdraws line LINE of the sheet on standard input, and prints `ok` with the new length or `refused` with number and place. The
 // new sheet goes to NEWFILE, which is made only then and must not be there before.
+use answers::input::read_sheet;
 use answers::numbers::Reading;
 use answers::numbers::read_number;
-use answers::runs::print_withdrawal;
-use answers::runs::read_sheet;
-use answers::runs::withdraw_sheet;
+use answers::replies::withdrawal_reply;
 use libc::STDERR_FILENO;
 use libc::STDIN_FILENO;
+use libc::STDOUT_FILENO;
 use sheets::withdrawal::Withdrawal;
 
 // The number that the first argument spells. One that is missing or too long counts as empty.
@@ -34,26 +34,27 @@ fn make_file(path: &[u8], bytes: &[u8]) -> bool {
 }
 
 // Withdraws a line, and makes the new file before it says so.
-fn withdraw_to(sheet: &[u8], line: usize, path: &[u8]) {
+fn withdraw_to(sheet: &[u8], number: usize, path: &[u8]) {
     let mut out = [0u8; 52240];
-    let answer = withdraw_sheet(sheet, line, &mut out);
+    let mut line = [0u8; 80];
+    let reply = withdrawal_reply(sheet, number, &mut out, &mut line);
+    let answer = reply.answer;
     if let Withdrawal::Written { length } = answer {
         if !make_file(path, &out[..length]) {
             return;
         }
     }
-    print_withdrawal(answer);
+    let count = reply.count;
+    io::write_all(STDOUT_FILENO, &line[..count]);
 }
 
 // The same, for the sheet on standard input.
-fn withdraw_input(line: usize, path: &[u8]) {
+fn withdraw_input(number: usize, path: &[u8]) {
     let mut sheet = [0u8; 52241];
     let input = read_sheet(STDIN_FILENO, &mut sheet);
     let length = input.length;
     if input.whole {
-        withdraw_to(&sheet[..length], line, path);
-    } else {
-        os::fail(b"reading the sheet");
+        withdraw_to(&sheet[..length], number, path);
     }
 }
 
@@ -61,8 +62,8 @@ fn main() {
     let mut path = [0u8; 4096];
     let length = os::arg(2, &mut path);
     if (os::arg_count() == 3) & (0 < length) {
-        if let Reading::Number(line) = line_argument() {
-            withdraw_input(line, &path[..length]);
+        if let Reading::Number(number) = line_argument() {
+            withdraw_input(number, &path[..length]);
             return;
         }
     }

@@ -1,7 +1,7 @@
 //! The sample sheets that the repository keeps, through the reference and the proved library.
 
 use differential::compare::{on_both, Buffers, Call, Outcome};
-use differential::reference::layout::{LINE_ROW, MAX_TERMS};
+use differential::reference::layout::{LINE_ROW, MAX_LENGTH, MAX_TERMS};
 use differential::reference::reading::Reading;
 use differential::reference::Answer;
 use std::fs;
@@ -42,11 +42,11 @@ fn sheets() -> Vec<(PathBuf, Vec<u8>)> {
     paths.filter(named).map(read).collect()
 }
 
-/// What a call leaves, with a full work buffer and room for the sheet in the output.
-fn full(sheet: &[u8], call: Call) -> Outcome {
+/// What a call leaves, with a full work buffer and an output of so many bytes.
+fn full(sheet: &[u8], call: Call, room: usize) -> Outcome {
     let buffers = Buffers {
         work: vec![0; MAX_TERMS],
-        out: vec![0; sheet.len()],
+        out: vec![0; room],
     };
     let (outcome, difference) = on_both(&Reading::of(sheet), sheet, call, buffers);
     assert_eq!(difference, None);
@@ -55,7 +55,7 @@ fn full(sheet: &[u8], call: Call) -> Outcome {
 
 fn admissions(text: &mut Vec<String>) {
     for row in rows("admit.list") {
-        let admitted = full(&sheet(&row[0]), Call::Admit);
+        let admitted = full(&sheet(&row[0]), Call::Admit, 0);
         text.push(format!("{} {}", row[0], printed(admitted.answer, 3)));
     }
 }
@@ -63,22 +63,27 @@ fn admissions(text: &mut Vec<String>) {
 fn searches(text: &mut Vec<String>) {
     for row in rows("find.list") {
         let wanted = [1, 2, 3, 4, 5].map(|place: usize| row[place].parse().expect("a number"));
-        let found = full(&sheet(&row[0]), Call::Find(wanted));
+        let found = full(&sheet(&row[0]), Call::Find(wanted), 0);
         text.push(format!("{} {}", row.join(" "), printed(found.answer, 1)));
     }
 }
 
+/// A row is a sheet, a line and the room for the new sheet; without the last there is room for any sheet.
 fn withdrawals(text: &mut Vec<String>) {
     for row in rows("withdraw.list") {
-        let line = row[1].parse().expect("a number");
-        let withdrawn = full(&sheet(&row[0]), Call::Withdraw(line));
+        let numbers: Vec<usize> = row[1..]
+            .iter()
+            .map(|w| w.parse().expect("a number"))
+            .collect();
+        let room = numbers.get(1).copied().unwrap_or(MAX_LENGTH);
+        let withdrawn = full(&sheet(&row[0]), Call::Withdraw(numbers[0]), room);
         text.push(format!(
             "{} {}",
             row.join(" "),
             printed(withdrawn.answer, 1)
         ));
         if withdrawn.answer.number == 0 {
-            let again = full(withdrawn.written(), Call::Admit);
+            let again = full(withdrawn.written(), Call::Admit, 0);
             text.push(printed(again.answer, 3));
         }
     }

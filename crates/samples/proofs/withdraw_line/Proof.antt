@@ -6,35 +6,46 @@ use borrow.Author.Needs.{needs}
 use Rattle.samples.proofs.withdraw_line.Statement.{statement}
 use Rattle.samples.proofs.withdraw_line.Tie as tie
 
-slice-aggregate-withdraw-sheet : tie.Need-slice-aggregate-withdraw-sheet
-slice-aggregate-withdraw-sheet c = search needs
+withdrawal-reply-requires : tie.Need-withdrawal-reply-requires
+withdrawal-reply-requires c κs = search needs
 
-withdraw-sheet-requires : tie.Need-withdraw-sheet-requires
-withdraw-sheet-requires c κs = search needs
+array-share-prefix-text : tie.Need-array-share-prefix-text
+array-share-prefix-text c = search needs
 
-print-withdrawal-requires : tie.Need-print-withdrawal-requires
-print-withdrawal-requires c κs = search needs
+slice-aggregate-write-all : tie.Need-slice-aggregate-write-all
+slice-aggregate-write-all c = search needs
+
+write-all-requires : tie.Need-write-all-requires
+write-all-requires c κs = search needs
 
 enum-known-answer : tie.Need-enum-known-answer
 enum-known-answer c = search needs
 
-array-share-prefix-out : tie.Need-array-share-prefix-out
-array-share-prefix-out c = omega (arith, length-within (c .before .before .before .before .before .withdraw-sheet .ensures .1 .1 .1) (c .before .answer .given .1))
+slice-reshare-prefix-admit-whole : tie.Need-slice-reshare-prefix-admit-whole
+slice-reshare-prefix-admit-whole c =
+    let w = c .before .before .before .before .before .before .before .withdrawal-reply in
+    omega (arith, length-within (w .ensures .1 .1 .1 .0) (c .before .answer .given .1))
 
-slice-aggregate-admit-sheet : tie.Need-slice-aggregate-admit-sheet
-slice-aggregate-admit-sheet c = sym (length-take-le _ _ (omega (arith, length-within (c .before .before .before .before .before .before .withdraw-sheet .ensures .1 .1 .1) (c .before .before .answer .given .1))))
+slice-aggregate-admit-whole : tie.Need-slice-aggregate-admit-whole
+slice-aggregate-admit-whole c =
+    let s = c .before in
+    let w = s .before .before .before .before .before .before .before .withdrawal-reply in
+    sym (length-take-le _ _ (omega (arith, length-within (w .ensures .1 .1 .1 .0) (s .before .answer .given .1))))
 
-admit-sheet-requires : tie.Need-admit-sheet-requires
-admit-sheet-requires c κs = search needs
-
-print-admission-requires : tie.Need-print-admission-requires
-print-admission-requires c κs = search needs
+admit-whole-requires : tie.Need-admit-whole-requires
+admit-whole-requires c κs = search needs
 
 enum-told : tie.Need-enum-told
 enum-told c = search needs
 
+same-length : tie.Need-same-length
+same-length c = search needs
+
 returns : tie.Need-returns
 returns c = search needs
+
+same-length-2 : tie.Need-same-length-2
+same-length-2 c = search needs
 
 returns-2 : tie.Need-returns-2
 returns-2 c = search needs
@@ -43,14 +54,16 @@ pub withdraw-line-spec : {M : Type 1} → statement M
 withdraw-line-spec =
     tie.close
     (tie.spec
-    slice-aggregate-withdraw-sheet
-    withdraw-sheet-requires
-    print-withdrawal-requires
+    withdrawal-reply-requires
+    array-share-prefix-text
+    slice-aggregate-write-all
+    write-all-requires
     enum-known-answer
-    array-share-prefix-out
-    slice-aggregate-admit-sheet
-    admit-sheet-requires
-    print-admission-requires
+    slice-reshare-prefix-admit-whole
+    slice-aggregate-admit-whole
+    admit-whole-requires
     enum-told
+    same-length
     returns
+    same-length-2
     returns-2)

@@ -6,20 +6,25 @@ use borrow.Author.Needs.{needs}
 use Rattle.withdraw.proofs.withdraw_to.Statement.{statement}
 use Rattle.withdraw.proofs.withdraw_to.Tie as tie
 
-slice-aggregate-withdraw-sheet : tie.Need-slice-aggregate-withdraw-sheet
-slice-aggregate-withdraw-sheet c = search needs
+slice-aggregate-withdrawal-reply : tie.Need-slice-aggregate-withdrawal-reply
+slice-aggregate-withdrawal-reply c = search needs
 
-withdraw-sheet-requires : tie.Need-withdraw-sheet-requires
-withdraw-sheet-requires c κs = search needs
+withdrawal-reply-requires : tie.Need-withdrawal-reply-requires
+withdrawal-reply-requires c κs = search needs
 
 enum-known-answer : tie.Need-enum-known-answer
 enum-known-answer c = search needs
 
 array-share-prefix-out : tie.Need-array-share-prefix-out
-array-share-prefix-out c = omega (arith, length-within (c .before .before .before .before .withdraw-sheet .ensures .1 .1 .1) (c .before .answer .given .1))
+array-share-prefix-out c =
+    let w = c .before .before .before .before .withdrawal-reply in
+    omega (arith, length-within (w .ensures .1 .1 .1 .0) (c .before .answer .given .1))
 
 slice-aggregate-make-file : tie.Need-slice-aggregate-make-file
-slice-aggregate-make-file c = sym (length-take-le _ _ (omega (arith, length-within (c .before .before .before .before .before .withdraw-sheet .ensures .1 .1 .1) (c .before .before .answer .given .1))))
+slice-aggregate-make-file c =
+    let s = c .before in
+    let w = s .before .before .before .before .withdrawal-reply in
+    sym (length-take-le _ _ (omega (arith, length-within (w .ensures .1 .1 .1 .0) (s .before .answer .given .1))))
 
 make-file-requires : tie.Need-make-file-requires
 make-file-requires c κs = search needs
@@ -30,8 +35,14 @@ returns c = search needs
 enum-told : tie.Need-enum-told
 enum-told c = search needs
 
-print-withdrawal-requires : tie.Need-print-withdrawal-requires
-print-withdrawal-requires c κs = search needs
+array-share-prefix-line : tie.Need-array-share-prefix-line
+array-share-prefix-line c = search needs
+
+slice-aggregate-write-all : tie.Need-slice-aggregate-write-all
+slice-aggregate-write-all c = search needs
+
+write-all-requires : tie.Need-write-all-requires
+write-all-requires c κs = search needs
 
 returns-2 : tie.Need-returns-2
 returns-2 c = search needs
@@ -40,13 +51,15 @@ pub withdraw-to-spec : {M : Type 1} → statement M
 withdraw-to-spec =
     tie.close
     (tie.spec
-    slice-aggregate-withdraw-sheet
-    withdraw-sheet-requires
+    slice-aggregate-withdrawal-reply
+    withdrawal-reply-requires
     enum-known-answer
     array-share-prefix-out
     slice-aggregate-make-file
     make-file-requires
     returns
     enum-told
-    print-withdrawal-requires
+    array-share-prefix-line
+    slice-aggregate-write-all
+    write-all-requires
     returns-2)

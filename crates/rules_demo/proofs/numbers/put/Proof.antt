@@ -1,8 +1,9 @@
--- Each store keeps the length, so the count that is answered fits it.
+-- Without room nothing is put; the two stores put one word.
 -- Assumes nothing.
 use native.Mathlib.Omega.{arith}
 use lib.ListN.{length-set}
 use borrow.Author.Needs.{needs}
+use Rattle.rules_demo.proofs.WordBufferLaws.{full, one-put}
 use Rattle.rules_demo.proofs.numbers.put.Statement.{statement}
 use Rattle.rules_demo.proofs.numbers.put.Tie as tie
 
@@ -13,7 +14,7 @@ sub-if1 : tie.Need-sub-if1
 sub-if1 c = search needs
 
 returns : tie.Need-returns
-returns c = search needs
+returns c = full _ _ (c .before .pre) _ (c .if1 .taken)
 
 cast-out : tie.Need-cast-out
 cast-out c = search needs
@@ -37,7 +38,7 @@ same-length : tie.Need-same-length
 same-length c = search needs
 
 returns-2 : tie.Need-returns-2
-returns-2 c = simp length-set (omega arith)
+returns-2 c = one-put _ _ (c .before .pre) _ (c .if1 .left)
 
 pub put-spec : {M : Type 1} → statement M
 put-spec =

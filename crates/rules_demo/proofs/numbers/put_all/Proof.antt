@@ -1,20 +1,20 @@
--- The count of words fits the buffer at each turn; the measure is what is left of the text.
+-- At each turn the numbers that have ended are put; the measure is what is left of the text.
 -- Assumes nothing.
-use mathlib.Core.Path.{_≡_}
-use Prim.Native.Nat.{_*_, _-_, _≤_}
+use Prim.Native.Nat.{_-_}
 use lib.ListN.{length}
 use borrow.Author.Needs.{needs}
+use Rattle.rules_demo.proofs.ReaderLaws.{ReadSoFar, start, goes-on, finished}
 use Rattle.rules_demo.proofs.numbers.put_all.Statement.{statement}
 use Rattle.rules_demo.proofs.numbers.put_all.Tie as tie
 
 abbrev Inv-loop : tie.InvT-loop
-Inv-loop text out₀ count₀ place₀ i₀ out count place i = (2 * count ≤ length out) × (length out ≡ length out₀) × (i ≤ length text)
+Inv-loop text out₀ count₀ place₀ i₀ out count place i = ReadSoFar text out₀ out count place i
 
 abbrev μ-loop : tie.MeasureT-loop
 μ-loop text out₀ count₀ place₀ i₀ out count place i = length text - i
 
 loop-holds : tie.Need-loop-holds Inv-loop μ-loop
-loop-holds c = search needs
+loop-holds c = start _ _
 
 shared-slice-read-next-place : tie.Need-shared-slice-read-next-place Inv-loop μ-loop
 shared-slice-read-next-place c = search needs
@@ -32,13 +32,16 @@ loop-less : tie.Need-loop-less Inv-loop μ-loop
 loop-less c = search needs
 
 loop-again : tie.Need-loop-again Inv-loop μ-loop
-loop-again c = search needs
+loop-again c =
+    let s = c .before .before .before .before in
+    goes-on (s .before .before .before .loop .inv) (s .before .before .loop-test .taken) (s .next-place .ensures)
+    (c .before .before .put-ended .ensures)
 
 same-length : tie.Need-same-length Inv-loop μ-loop
 same-length c = search needs
 
 returns : tie.Need-returns Inv-loop μ-loop
-returns c = search needs
+returns c = finished (c .before .loop .inv) (c .loop-test .left)
 
 pub put-all-spec : {M : Type 1} → statement M
 put-all-spec =

@@ -1,17 +1,21 @@
-use Prim.Native.Nat.{_-_, _≤_}
+-- So many words of the line are passed; the measure is how many are not.
+-- Assumes nothing.
+use Prim.Native.Nat.{_-_}
+use mathlib.Core.Path.{_∙_, ap}
 use borrow.Author.Needs.{needs}
-use lib.ListN.{length}
-use Rattle.samples.proofs.number_in.Statement.{statement}
-use Rattle.samples.proofs.number_in.Tie as tie
+use Rattle.answers.specs.Numbers.{readNumber}
+use Rattle.samples.proofs.TextLaws.{WordsPassed, no-words-passed, word-passes, word-is}
+use Rattle.samples.proofs.text.number_in.Statement.{statement}
+use Rattle.samples.proofs.text.number_in.Tie as tie
 
 abbrev Inv-loop : tie.InvT-loop
-Inv-loop line n start₀ passed₀ start passed = start ≤ length line
+Inv-loop line n start₀ passed₀ start passed = WordsPassed line n start passed
 
 abbrev μ-loop : tie.MeasureT-loop
 μ-loop line n start₀ passed₀ start passed = n - passed
 
 loop-holds : tie.Need-loop-holds Inv-loop μ-loop
-loop-holds c = search needs
+loop-holds c = no-words-passed _ _
 
 place-of-requires : tie.Need-place-of-requires Inv-loop μ-loop
 place-of-requires c κs = search needs
@@ -26,7 +30,9 @@ loop-less : tie.Need-loop-less Inv-loop μ-loop
 loop-less c = search needs
 
 loop-again : tie.Need-loop-again Inv-loop μ-loop
-loop-again c = search needs
+loop-again c =
+    let s = c .before .before in
+    word-passes (s .before .loop .inv) (c .before .place-of .ensures .0) (s .loop-test .taken) (c .behind .ensures)
 
 place-of-requires-2 : tie.Need-place-of-requires-2 Inv-loop μ-loop
 place-of-requires-2 c κs = search needs
@@ -44,7 +50,10 @@ read-number-requires : tie.Need-read-number-requires Inv-loop μ-loop
 read-number-requires c κs = search needs
 
 returns : tie.Need-returns Inv-loop μ-loop
-returns c = search needs
+returns c =
+    let s = c .before .before in
+    let word = word-is (s .before .before .loop .inv) (s .place-of2 .ensures .0) (s .before .loop-test .left) in
+    c .read-number .ensures ∙ ap readNumber word
 
 pub number-in-spec : {M : Type 1} → statement M
 number-in-spec =

@@ -1,0 +1,62 @@
+// The line of text that answers a sheet: every byte of it follows from the bytes of the sheet and what is asked. A work
+// buffer of 3,072 words serves every sheet.
+use crate::lines::put_admission;
+use crate::lines::put_found;
+use crate::lines::put_withdrawal;
+use sheets::admission::admit;
+use sheets::finding::Wanted;
+use sheets::finding::find;
+use sheets::withdrawal::Withdrawal;
+use sheets::withdrawal::withdraw;
+ghost use mathlib.Core.Path.{_≡_};
+ghost use lib.ListN.{length};
+ghost use Rattle.io.specs.Counts.{Counts};
+ghost use Rattle.sheets.specs.Admission.{admitOf};
+ghost use Rattle.sheets.specs.Finding.{findOf};
+ghost use Rattle.sheets.specs.Withdrawal.{withdrawOf, outAfter, Withdrawn};
+ghost use Rattle.answers.specs.Text.{admissionText, foundText, withdrawalText, AtStart};
+ghost use Rattle.answers.specs.Room.{Within};
+
+// What a withdrawal answers, and how many bytes its line has.
+pub struct WithdrawalReply {
+    pub answer: Withdrawal,
+    pub count: usize,
+}
+
+// Admits a sheet: how many bytes the line has that stands at the start of `line`.
+pub fn admission_reply(sheet: &[u8], line: &mut [u8; 80]) -> usize
+    ensures count { λ r. ⌜ Counts r (now (line .exit)) ⌝ }
+    ensures text { λ r. ⌜ AtStart (admissionText (admitOf (now (sheet .entry)) 3072)) (now (line .entry)) (now (line .exit)) r ⌝ }
+{
+    let mut work = [0u32; 3072];
+    put_admission(admit(sheet, &mut work), line)
+}
+
+// Searches a sheet likewise.
+pub fn search_reply(sheet: &[u8], wanted: Wanted, line: &mut [u8; 80]) -> usize
+    ensures count { λ r. ⌜ Counts r (now (line .exit)) ⌝ }
+    ensures text { λ r. ⌜ AtStart (foundText (findOf (now (sheet .entry)) 3072 wanted)) (now (line .entry)) (now (line .exit)) r ⌝ }
+{
+    let mut work = [0u32; 3072];
+    put_found(find(sheet, &mut work, wanted), line)
+}
+
+// Withdraws line `number` of a sheet likewise; the new sheet goes to `out`.
+pub fn withdrawal_reply(
+    sheet: &[u8],
+    number: usize,
+    out: &mut [u8],
+    line: &mut [u8; 80],
+) -> WithdrawalReply
+    ensures answer { λ r. ⌜ r .answer ≡ withdrawOf (now (sheet .entry)) number 3072 (length (now (out .entry))) ⌝ }
+    ensures written { λ _. ⌜ now (out .exit) ≡ outAfter (now (sheet .entry)) number 3072 (now (out .entry)) ⌝ }
+    ensures kept { λ r. ⌜ Withdrawn (now (sheet .entry)) number (now (out .exit)) (r .answer) ⌝ }
+    ensures within { λ r. ⌜ Within (length (now (out .entry))) (r .answer) ⌝ }
+    ensures count { λ r. ⌜ Counts (r .count) (now (line .exit)) ⌝ }
+    ensures text { λ r. ⌜ AtStart (withdrawalText (r .answer)) (now (line .entry)) (now (line .exit)) (r .count) ⌝ }
+{
+    let mut work = [0u32; 3072];
+    let answer = withdraw(sheet, number, &mut work, out);
+    let count = put_withdrawal(answer, line);
+    WithdrawalReply { answer, count }
+}

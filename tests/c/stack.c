@@ -1,0 +1,158 @@
+/*
+ * Measures the stack that admission takes, on a stack of its own that is painted before each call. With no argument it
+ * prints nothing, and it fails if the header's figure does not cover 3,072 levels; with one it prints what it measured.
+ *
+ * Terms are walked by recursion. Each level of a typed term has a line of its own, so that the lines of a sheet allow a
+ * term of some thousand levels. Two sheets are built over c, which is succ^n of a variable: E-APPABS substitutes in c
+ * alone, and E-INDSUC puts for y an ind that holds c again, so that its walk goes through c twice, the second time only
+ * to raise it. What 3,072 levels would take follows from the greater growth.
+ */
+#define _GNU_SOURCE
+#include <stdio.h>
+#include <string.h>
+#include <ucontext.h>
+
+#include "mengyubad.h"
+
+enum { PAINT = 0xA5, MOST_LEVELS = 3072, LEVELS = 1016 };
+
+static uint8_t stack[8 * 1024 * 1024];
+static uint8_t sheet[MENGYUBAD_MOST_BYTES];
+static size_t length;
+static unsigned terms, contexts, lines;
+static size_t number;
+static ucontext_t here, there;
+
+static void put_word(unsigned word)
+{
+    sheet[length++] = (uint8_t)(word % 256);
+    sheet[length++] = (uint8_t)(word / 256);
+}
+
+static void put_words(const unsigned *words, size_t count)
+{
+    for (size_t i = 0; i < count; i++)
+        put_word(words[i]);
+}
+
+static unsigned term(unsigned tag, unsigned a, unsigned b, unsigned c, unsigned d)
+{
+    const unsigned row[] = {tag, a, b, c, d};
+    put_words(row, 5);
+    return terms++;
+}
+
+static unsigned line(unsigned form, unsigned rule, unsigned context, unsigned s1, unsigned s2, unsigned s3, unsigned p,
+                     unsigned q, unsigned r)
+{
+    const unsigned row[] = {form, rule, context, s1, s2, s3, p, q, r, 0};
+    put_words(row, 10);
+    return lines++;
+}
+
+/* The rows of succ^count over a row, one behind the other: the last of them. */
+static unsigned successors(unsigned row, unsigned count)
+{
+    for (unsigned i = 0; i < count; i++)
+        row = term(12, row, 0, 0, 0);
+    return row;
+}
+
+enum { NAT, UNIVERSE, ZERO, VARIABLE, FIRST_SUCCESSOR };
+
+/* The rows that both sheets have, Nat, U_0, zero, variable 0 and succ^n of that: the row of c. */
+static unsigned begin(unsigned n)
+{
+    length = terms = contexts = lines = 0;
+    term(10, 0, 0, 0, 0);
+    term(2, 0, 0, 0, 0);
+    term(11, 0, 0, 0, 0);
+    term(1, 0, 0, 0, 0);
+    return successors(VARIABLE, n);
+}
+
+/* Contexts, each the one before with Nat added, and lines that type succ^n of variable 0 in the last: the last line. */
+static unsigned typed(unsigned n, unsigned count)
+{
+    for (; contexts < count; contexts++) {
+        put_word(contexts);
+        put_word(NAT);
+    }
+    unsigned above = line(0, 1, 0, 0, 0, 0, 0, 0, 0);
+    for (unsigned context = 0; context < count; context++)
+        above = line(0, 2, context + 1, 0, 0, 0, above, line(1, 12, context, NAT, 0, UNIVERSE, above, 0, 0), 0);
+    above = line(1, 3, count, VARIABLE, 0, NAT, above, 0, 0);
+    for (unsigned i = 0; i < n; i++)
+        above = line(1, 14, count, FIRST_SUCCESSOR + i, 0, NAT, above, 0, 0);
+    return above;
+}
+
+static void end(void)
+{
+    const unsigned to_lines = 20 * lines, to_contexts = to_lines + 4 * contexts, to_terms = to_contexts + 10 * terms;
+    const unsigned trailer[] = {terms, contexts, lines, 1, to_terms, to_contexts, to_lines, 0x4C44};
+    put_words(trailer, 8);
+}
+
+/* (lambda c) zero = c[zero] : Nat */
+static void build_application(unsigned n)
+{
+    const unsigned c = begin(n), result = successors(ZERO, n), applied = term(5, term(4, c, 0, 0, 0), ZERO, 0, 0);
+    const unsigned body = typed(n, 1), argument = line(1, 13, 0, ZERO, 0, NAT, 0, 0, 0);
+    line(2, 30, 0, applied, result, NAT, argument, body, 0);
+    end();
+}
+
+/* ind(Nat, succ zero, zero, c) = c[x:=zero, y:=ind(Nat, zero, zero, c)] : Nat */
+static void build_induction(unsigned n)
+{
+    const unsigned c = begin(n), whole = term(13, NAT, successors(ZERO, 1), ZERO, c);
+    const unsigned result = successors(term(13, NAT, ZERO, ZERO, c), n);
+    const unsigned step = typed(n, 2), zero = line(1, 13, 0, ZERO, 0, NAT, 0, 0, 0);
+    line(2, 34, 0, whole, result, NAT, zero, zero, step);
+    end();
+}
+
+static void admit(void)
+{
+    static uint32_t work[MENGYUBAD_MOST_TERMS];
+    size_t values[3];
+    number = mengyubad_admit(sheet, length, work, MENGYUBAD_MOST_TERMS, values);
+}
+
+/* The bytes of stack that the admission of a sheet takes; 0 if it is not admitted. */
+static size_t taken(void (*build)(unsigned), unsigned n)
+{
+    build(n);
+    memset(stack, PAINT, sizeof stack);
+    getcontext(&there);
+    there.uc_stack.ss_sp = stack;
+    there.uc_stack.ss_size = sizeof stack;
+    there.uc_link = &here;
+    makecontext(&there, admit, 0);
+    swapcontext(&here, &there);
+    size_t untouched = 0;
+    while (untouched < sizeof stack && stack[untouched] == PAINT)
+        untouched++;
+    return number == MENGYUBAD_OK ? sizeof stack - untouched : 0;
+}
+
+int main(int argc, char **argv)
+{
+    (void)argv;
+    const size_t flat = taken(build_application, 0), once = taken(build_application, LEVELS);
+    const size_t twice = taken(build_induction, LEVELS);
+    if (flat == 0 || once <= flat || twice <= once) {
+        fprintf(stderr, "stack: a sheet is not admitted, or takes no stack\n");
+        return 1;
+    }
+    const size_t first = once - flat, second = twice - once;
+    const size_t whole = flat + (first > second ? first : second) * MOST_LEVELS / LEVELS;
+    if (argc > 1)
+        printf("no level %zu, %d levels %zu, twice as many %zu, so %d levels %zu bytes\n", flat, LEVELS, once, twice,
+               MOST_LEVELS, whole);
+    if (whole <= MENGYUBAD_STACK_BYTES)
+        return 0;
+    fprintf(stderr, "stack: %d levels take %zu bytes, over %d\n", MOST_LEVELS, whole, MENGYUBAD_STACK_BYTES);
+    return 1;
+}
