@@ -9,9 +9,9 @@
  * two buffers overlap; MENGYUBAD_STACK_BYTES of stack are free. Any bytes, lengths and numbers may be handed over. The
  * functions have no state of their own, allocate nothing and keep no pointer.
  *
- * Stack: terms are walked by recursion, at most 3,072 levels deep. Measured by tests/c/stack.c: a level takes 240 bytes
- * where a term is substituted in and fewer where it is raised, and the rest 12.6 KB, so that 3,072 levels take 750 KB.
- * The deepest walk of a sheet that it builds, some 2,030 levels, takes 452 KB.
+ * Stack: terms are walked by recursion, at most 3,072 levels deep. Measured on admission, which the others begin with,
+ * by tests/c/stack.c: a level takes 240 bytes where a term is substituted in and fewer where it is raised, and the rest
+ * 12.6 KB, so that 3,072 levels take 750 KB. The deepest walk of a sheet that it builds, some 2,030 levels, takes 452 KB.
  *
  * Every function returns 0, or the number of a refusal, and sets all three words of `values`:
  *   0       mengyubad_admit: T, C, L; mengyubad_find: the line, 0, 0; mengyubad_withdraw: the new length, 0, 0

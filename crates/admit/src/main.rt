@@ -9,8 +9,8 @@ fn main() {
     let input = read_sheet(STDIN_FILENO, &mut sheet);
     let length = input.length;
     if input.whole {
-        let mut line = [0u8; 80];
-        let count = admission_reply(&sheet[..length], &mut line);
-        io::write_all(STDOUT_FILENO, &line[..count]);
+        let mut text = [0u8; 80];
+        let count = admission_reply(&sheet[..length], &mut text);
+        io::write_all(STDOUT_FILENO, &text[..count]);
     }
 }

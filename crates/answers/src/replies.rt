@@ -17,28 +17,28 @@ ghost use Rattle.sheets.specs.Withdrawal.{withdrawOf, outAfter, Withdrawn};
 ghost use Rattle.answers.specs.Text.{admissionText, foundText, withdrawalText, AtStart};
 ghost use Rattle.answers.specs.Room.{Within};
 
-// What a withdrawal answers, and how many bytes its line has.
+// What a withdrawal answers, and how many bytes its text has.
 pub struct WithdrawalReply {
     pub answer: Withdrawal,
     pub count: usize,
 }
 
-// Admits a sheet: how many bytes the line has that stands at the start of `line`.
-pub fn admission_reply(sheet: &[u8], line: &mut [u8; 80]) -> usize
-    ensures count { λ r. ⌜ Counts r (now (line .exit)) ⌝ }
-    ensures text { λ r. ⌜ AtStart (admissionText (admitOf (now (sheet .entry)) 3072)) (now (line .entry)) (now (line .exit)) r ⌝ }
+// Admits a sheet, puts the line of text at the start of `text`, and answers how many bytes it has.
+pub fn admission_reply(sheet: &[u8], text: &mut [u8; 80]) -> usize
+    ensures count { λ r. ⌜ Counts r (now (text .exit)) ⌝ }
+    ensures text { λ r. ⌜ AtStart (admissionText (admitOf (now (sheet .entry)) 3072)) (now (text .entry)) (now (text .exit)) r ⌝ }
 {
     let mut work = [0u32; 3072];
-    put_admission(admit(sheet, &mut work), line)
+    put_admission(admit(sheet, &mut work), text)
 }
 
 // Searches a sheet likewise.
-pub fn search_reply(sheet: &[u8], wanted: Wanted, line: &mut [u8; 80]) -> usize
-    ensures count { λ r. ⌜ Counts r (now (line .exit)) ⌝ }
-    ensures text { λ r. ⌜ AtStart (foundText (findOf (now (sheet .entry)) 3072 wanted)) (now (line .entry)) (now (line .exit)) r ⌝ }
+pub fn search_reply(sheet: &[u8], wanted: Wanted, text: &mut [u8; 80]) -> usize
+    ensures count { λ r. ⌜ Counts r (now (text .exit)) ⌝ }
+    ensures text { λ r. ⌜ AtStart (foundText (findOf (now (sheet .entry)) 3072 wanted)) (now (text .entry)) (now (text .exit)) r ⌝ }
 {
     let mut work = [0u32; 3072];
-    put_found(find(sheet, &mut work, wanted), line)
+    put_found(find(sheet, &mut work, wanted), text)
 }
 
 // Withdraws line `number` of a sheet likewise; the new sheet goes to `out`.
@@ -46,17 +46,17 @@ pub fn withdrawal_reply(
     sheet: &[u8],
     number: usize,
     out: &mut [u8],
-    line: &mut [u8; 80],
+    text: &mut [u8; 80],
 ) -> WithdrawalReply
     ensures answer { λ r. ⌜ r .answer ≡ withdrawOf (now (sheet .entry)) number 3072 (length (now (out .entry))) ⌝ }
     ensures written { λ _. ⌜ now (out .exit) ≡ outAfter (now (sheet .entry)) number 3072 (now (out .entry)) ⌝ }
     ensures kept { λ r. ⌜ Withdrawn (now (sheet .entry)) number (now (out .exit)) (r .answer) ⌝ }
     ensures within { λ r. ⌜ Within (length (now (out .entry))) (r .answer) ⌝ }
-    ensures count { λ r. ⌜ Counts (r .count) (now (line .exit)) ⌝ }
-    ensures text { λ r. ⌜ AtStart (withdrawalText (r .answer)) (now (line .entry)) (now (line .exit)) (r .count) ⌝ }
+    ensures count { λ r. ⌜ Counts (r .count) (now (text .exit)) ⌝ }
+    ensures text { λ r. ⌜ AtStart (withdrawalText (r .answer)) (now (text .entry)) (now (text .exit)) (r .count) ⌝ }
 {
     let mut work = [0u32; 3072];
     let answer = withdraw(sheet, number, &mut work, out);
-    let count = put_withdrawal(answer, line);
+    let count = put_withdrawal(answer, text);
     WithdrawalReply { answer, count }
 }

@@ -39,9 +39,9 @@ fn find_input(wanted: Wanted) {
     let input = read_sheet(STDIN_FILENO, &mut sheet);
     let length = input.length;
     if input.whole {
-        let mut line = [0u8; 80];
-        let count = search_reply(&sheet[..length], wanted, &mut line);
-        io::write_all(STDOUT_FILENO, &line[..count]);
+        let mut text = [0u8; 80];
+        let count = search_reply(&sheet[..length], wanted, &mut text);
+        io::write_all(STDOUT_FILENO, &text[..count]);
     }
 }
 

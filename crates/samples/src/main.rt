@@ -26,9 +26,9 @@ enum Task {
 
 // Admits a sheet.
 fn admit_whole(sheet: &[u8]) {
-    let mut reply = [0u8; 80];
-    let count = admission_reply(sheet, &mut reply);
-    io::write_all(STDOUT_FILENO, &reply[..count]);
+    let mut text = [0u8; 80];
+    let count = admission_reply(sheet, &mut text);
+    io::write_all(STDOUT_FILENO, &text[..count]);
 }
 
 // Searches a sheet for the five numbers of a line of the list.
@@ -41,9 +41,9 @@ fn find_numbers(sheet: &[u8], line: &[u8]) {
         field_of(number_in(line, 5)),
     ) {
         Request::Judgment(wanted) => {
-            let mut reply = [0u8; 80];
-            let count = search_reply(sheet, wanted, &mut reply);
-            io::write_all(STDOUT_FILENO, &reply[..count]);
+            let mut text = [0u8; 80];
+            let count = search_reply(sheet, wanted, &mut text);
+            io::write_all(STDOUT_FILENO, &text[..count]);
         }
         Request::Unreadable => {
             io::write_all(STDOUT_FILENO, b"unreadable\n");

@@ -36,8 +36,8 @@ fn make_file(path: &[u8], bytes: &[u8]) -> bool {
 // Withdraws a line, and makes the new file before it says so.
 fn withdraw_to(sheet: &[u8], number: usize, path: &[u8]) {
     let mut out = [0u8; 52240];
-    let mut line = [0u8; 80];
-    let reply = withdrawal_reply(sheet, number, &mut out, &mut line);
+    let mut text = [0u8; 80];
+    let reply = withdrawal_reply(sheet, number, &mut out, &mut text);
     let answer = reply.answer;
     if let Withdrawal::Written { length } = answer {
         if !make_file(path, &out[..length]) {
@@ -45,7 +45,7 @@ fn withdraw_to(sheet: &[u8], number: usize, path: &[u8]) {
         }
     }
     let count = reply.count;
-    io::write_all(STDOUT_FILENO, &line[..count]);
+    io::write_all(STDOUT_FILENO, &text[..count]);
 }
 
 // The same, for the sheet on standard input.

@@ -35,8 +35,8 @@ returns c = search needs
 enum-told : tie.Need-enum-told
 enum-told c = search needs
 
-array-share-prefix-line : tie.Need-array-share-prefix-line
-array-share-prefix-line c = search needs
+array-share-prefix-text : tie.Need-array-share-prefix-text
+array-share-prefix-text c = search needs
 
 slice-aggregate-write-all : tie.Need-slice-aggregate-write-all
 slice-aggregate-write-all c = search needs
@@ -59,7 +59,7 @@ withdraw-to-spec =
     make-file-requires
     returns
     enum-told
-    array-share-prefix-line
+    array-share-prefix-text
     slice-aggregate-write-all
     write-all-requires
     returns-2)
