@@ -1,21 +1,23 @@
 /*
- * Mengyubad: admission of derivation sheets, finding and withdrawal of a line.
+ * Mengyubad: admission of derivation sheets, finding and withdrawal of a line, day numbers and reading windows.
  *
  * Link libmengyubad.a (`rt staticlib mengyubad` writes it to target/staticlib; x86-64). What each function answers and leaves in the
  * buffers is proved: the contracts stand in crates/mengyubad/src/lib.rt, and the comments here say them in words. docs/FORMAT.md
- * describes sheets.
+ * describes sheets and dates.
  *
- * What C owes: no pointer is null, even where its length is 0; each points to as many elements as its length says; no
- * two buffers overlap; MENGYUBAD_STACK_BYTES of stack are free. Any bytes, lengths and numbers may be handed over. The
- * functions have no state of their own, allocate nothing and keep no pointer.
+ * What C owes: no pointer is null, even where its length is 0; each points to as many elements as its length says; a
+ * buffer that is written overlaps no other; MENGYUBAD_STACK_BYTES of stack are free. Any bytes, lengths and numbers may
+ * be handed over. The functions have no state of their own, allocate nothing and keep no pointer.
  *
- * Stack: terms are walked by recursion, at most 3,072 levels deep. Measured on admission, which the others begin with,
- * by tests/c/stack.c: a level takes 240 bytes where a term is substituted in and fewer where it is raised, and the rest
- * 12.6 KB, so that 3,072 levels take 750 KB. The deepest walk of a sheet that it builds, some 2,030 levels, takes 452 KB.
+ * Stack: terms are walked by recursion, at most 3,072 levels deep. Measured on admission, which finding and withdrawal
+ * begin with, by tests/c/stack.c: a level takes 240 bytes where a term is substituted in and fewer where it is raised,
+ * and the rest 12.6 KB, so that 3,072 levels take 750 KB. The deepest walk of a sheet that it builds, some 2,030
+ * levels, takes 452 KB. The two functions on dates walk no terms and need little stack.
  *
  * Every function returns 0, or the number of a refusal, and sets all three words of `values`:
- *   0       mengyubad_admit: T, C, L; mengyubad_find: the line, 0, 0; mengyubad_withdraw: the new length, 0, 0
- *   1 to 14 the place, 0, 0
+ *   0       mengyubad_admit: T, C, L; mengyubad_find: the line, 0, 0; mengyubad_withdraw: the new length, 0, 0;
+ *           mengyubad_day_number: the day number, 0, 0; mengyubad_window: 1 for open or 0 for closed, 0, 0
+ *   1 to 16 the place, 0, 0
  *
  * The work buffer takes the sizes of the terms, one word each; MENGYUBAD_MOST_TERMS words serve every sheet. What it held does not
  * matter. Afterwards:
@@ -23,6 +25,9 @@
  *   refusals 5 to 7 at term k its first k words are the sizes of terms 0 to k - 1
  *   otherwise                 its first T words are the sizes of all terms
  * Words beyond these are as they were.
+ *
+ * A date is an array of year, month, day in the Gregorian calendar, 1970 to 2199. Its day number counts from 1 January
+ * 1970, which is 0, to 31 December 2199, which is 84,005.
  */
 #ifndef MENGYUBAD_H
 #define MENGYUBAD_H
@@ -56,7 +61,9 @@ enum mengyubad_number {
     MENGYUBAD_NO_LINE = 11,         /* withdrawal, no such line: the number given */
     MENGYUBAD_LINE_USED = 12,       /* withdrawal, a later line uses it as a premise: the lowest such line */
     MENGYUBAD_OUT_SHORT = 13,       /* withdrawal, output under the new length: 0 */
-    MENGYUBAD_NOT_FOUND = 14        /* finding, no line has those five numbers: 0 */
+    MENGYUBAD_NOT_FOUND = 14,       /* finding, no line has those five numbers: 0 */
+    MENGYUBAD_NO_DATE = 15,         /* a date that does not exist, or outside 1970 to 2199: 0 */
+    MENGYUBAD_NO_DAYS = 16          /* a window whose last date is before its first: 0 */
 };
 
 /* Admits a sheet. Returns 0 or 1 to 10. */
@@ -76,6 +83,15 @@ size_t mengyubad_find(const uint8_t *sheet, size_t sheet_length, uint32_t *work,
  */
 size_t mengyubad_withdraw(const uint8_t *sheet, size_t sheet_length, size_t line, uint32_t *work, size_t work_words, uint8_t *out,
                           size_t out_length, size_t values[3]);
+
+/* Gives a date its day number. Returns 0 or 15. */
+size_t mengyubad_day_number(const uint32_t date[3], size_t values[3]);
+
+/*
+ * Says whether a reading window is open on a day: it is from `first` to `last`, both days included. Returns 0, 15 for
+ * any of the three dates, or, only if all three exist, 16.
+ */
+size_t mengyubad_window(const uint32_t first[3], const uint32_t last[3], const uint32_t day[3], size_t values[3]);
 
 #ifdef __cplusplus
 }

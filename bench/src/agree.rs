@@ -1,5 +1,6 @@
 //! The two sides must answer alike, buffers included.
 
+use crate::dates::Question;
 use crate::inputs::{Call, Input};
 use crate::tuned::Checker;
 use mengyubad::Answer;
@@ -45,4 +46,21 @@ pub fn assert_agree(input: &Input, checker: &mut Checker) {
     let (answer, ..) = alike(checker, sheet, input.call, 3080, sheet.len())
         .unwrap_or_else(|difference| panic!("{name}: {difference}"));
     assert_eq!(answer.number, 0, "{name}: refused {answer:?}");
+}
+
+/// The answer of both sides to a question on dates; as text how they differ, if they do.
+pub fn alike_on_dates(question: impl Question) -> Result<Answer, String> {
+    let (one, other) = (question.proved(), question.tuned());
+    if one != other {
+        return Err(format!("{question:?}: proved {one:?}, tuned {other:?}"));
+    }
+    Ok(one)
+}
+
+/// Panics unless both sides answer all questions alike and refuse none.
+pub fn assert_agree_on_dates(questions: &[impl Question]) {
+    for &question in questions {
+        let answer = alike_on_dates(question).expect("equal answers");
+        assert_eq!(answer.number, 0, "{question:?}: refused {answer:?}");
+    }
 }

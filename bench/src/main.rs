@@ -1,6 +1,7 @@
 //! Measures the proved library against a tuned checker, and prints the tables.
 
 mod agree;
+mod dates;
 mod inputs;
 mod measure;
 mod random;
@@ -10,6 +11,7 @@ mod samples;
 mod sheets;
 mod tuned;
 
+use dates::Question;
 use inputs::{Input, Sweep};
 use measure::Bench;
 use report::Measured;
@@ -21,6 +23,7 @@ fn main() {
     }
     let mut bench = Bench::new();
     measure_single(&mut bench);
+    measure_dates();
     for sweep in inputs::sweeps() {
         measure_sweep(&mut bench, &sweep);
     }
@@ -33,6 +36,14 @@ fn measure_single(bench: &mut Bench) {
         let measured = run(bench, &input);
         println!("{}", report::row(&input, &measured));
     }
+}
+
+fn measure_dates() {
+    println!("\n{}", report::DATES_HEAD);
+    let measured = run_on_dates(&dates::day_numbers());
+    println!("{}", report::dates_row("day number", &measured));
+    let measured = run_on_dates(&dates::windows());
+    println!("{}", report::dates_row("window", &measured));
 }
 
 fn measure_sweep(bench: &mut Bench, sweep: &Sweep) {
@@ -52,4 +63,10 @@ fn measure_sweep(bench: &mut Bench, sweep: &Sweep) {
 fn run(bench: &mut Bench, input: &Input) -> Measured {
     agree::assert_agree(input, &mut bench.checker);
     bench.measure(input)
+}
+
+/// The same, on questions of dates.
+fn run_on_dates(questions: &[impl Question]) -> Measured {
+    agree::assert_agree_on_dates(questions);
+    measure::measure_on_dates(questions)
 }

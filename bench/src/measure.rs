@@ -1,5 +1,6 @@
 //! Times of the proved library and of the tuned checker on one input, taken in turn.
 
+use crate::dates::Question;
 use crate::inputs::Input;
 use crate::report::Measured;
 use crate::tuned::Checker;
@@ -41,29 +42,61 @@ impl Bench {
         input.call.tuned(checker, sheet, work, out)
     }
 
-    /// The medians of interleaved samples, after a warm-up that also settles how often a sample repeats the call.
     pub fn measure(&mut self, input: &Input) -> Measured {
-        let proved_calls = calibrated(|| self.proved(input));
-        let tuned_calls = calibrated(|| self.tuned(input));
-        let (mut proved, mut tuned) = (Vec::new(), Vec::new());
-        let mut samples = SAMPLES;
-        while proved.len() < samples {
-            let seconds = timed(proved_calls, || self.proved(input));
-            if seconds > LONG.as_secs_f64() {
-                samples = LONG_SAMPLES;
-            }
-            proved.push(seconds);
-            tuned.push(timed(tuned_calls, || self.tuned(input)));
+        medians(|side| match side {
+            Side::Proved => self.proved(input),
+            Side::Tuned => self.tuned(input),
+        })
+    }
+}
+
+/// Measures one question on dates. Many are put in turn, since the branches on a single date would all be foreseen.
+pub fn measure_on_dates<Q: Question>(questions: &[Q]) -> Measured {
+    let all = medians(|side| match side {
+        Side::Proved => put_all(questions, Q::proved),
+        Side::Tuned => put_all(questions, Q::tuned),
+    });
+    let each = |seconds: f64| seconds / questions.len() as f64;
+    Measured {
+        proved: each(all.proved),
+        tuned: each(all.tuned),
+    }
+}
+
+fn put_all<Q: Question>(questions: &[Q], answer: impl Fn(Q) -> Answer) {
+    for &question in black_box(questions) {
+        black_box(answer(question));
+    }
+}
+
+/// Who is called.
+enum Side {
+    Proved,
+    Tuned,
+}
+
+/// The medians of interleaved samples, after a warm-up that also settles how often a sample repeats the call.
+fn medians<A>(mut call: impl FnMut(Side) -> A) -> Measured {
+    let proved_calls = calibrated(|| call(Side::Proved));
+    let tuned_calls = calibrated(|| call(Side::Tuned));
+    let (mut proved, mut tuned) = (Vec::new(), Vec::new());
+    let mut samples = SAMPLES;
+    while proved.len() < samples {
+        let seconds = timed(proved_calls, || call(Side::Proved));
+        if seconds > LONG.as_secs_f64() {
+            samples = LONG_SAMPLES;
         }
-        Measured {
-            proved: median(proved),
-            tuned: median(tuned),
-        }
+        proved.push(seconds);
+        tuned.push(timed(tuned_calls, || call(Side::Tuned)));
+    }
+    Measured {
+        proved: median(proved),
+        tuned: median(tuned),
     }
 }
 
 /// How many calls fill a sample.
-fn calibrated(mut call: impl FnMut() -> Answer) -> u32 {
+fn calibrated<A>(mut call: impl FnMut() -> A) -> u32 {
     let mut calls = 1;
     while sample(calls, &mut call) < SAMPLE {
         calls *= 2;
@@ -72,11 +105,11 @@ fn calibrated(mut call: impl FnMut() -> Answer) -> u32 {
 }
 
 /// Seconds for one call, over a sample of some.
-fn timed(calls: u32, mut call: impl FnMut() -> Answer) -> f64 {
+fn timed<A>(calls: u32, mut call: impl FnMut() -> A) -> f64 {
     sample(calls, &mut call).as_secs_f64() / f64::from(calls)
 }
 
-fn sample(calls: u32, call: &mut impl FnMut() -> Answer) -> Duration {
+fn sample<A>(calls: u32, call: &mut impl FnMut() -> A) -> Duration {
     let start = Instant::now();
     for _ in 0..calls {
         black_box(call());

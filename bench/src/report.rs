@@ -1,5 +1,6 @@
 //! The tables, as Markdown.
 
+use crate::dates::QUESTIONS;
 use crate::inputs::{Input, Sweep};
 use crate::measure::{LONG, LONG_SAMPLES, SAMPLE, SAMPLES};
 
@@ -14,13 +15,18 @@ pub const HEAD: &str = "\
 | input | bytes | T | C | L | proved | tuned | proved / tuned | proved MB/s | tuned MB/s |
 |---|---:|---:|---:|---:|---:|---:|---:|---:|---:|";
 
+pub const DATES_HEAD: &str = "\
+| call | proved | tuned | proved / tuned |
+|---|---:|---:|---:|";
+
 /// How the figures were taken.
 pub fn note() -> String {
     let (long, least) = (LONG.as_millis(), SAMPLE.as_millis());
     format!(
         "Medians of {SAMPLES} samples ({LONG_SAMPLES} where a call takes over {long} ms), taken in turn after a warm-up; a sample repeats a call for at least {least} ms. \
          One thread. The work and output buffers of both sides, and the memory of the tuned checker, are allocated once and not cleared between runs. Before each \
-         measurement both sides answered alike, buffers included. MB is 10^6 bytes of the sheet."
+         measurement both sides answered alike, buffers included. MB is 10^6 bytes of the sheet. \
+         Dates: one call of {QUESTIONS} on random dates, put in turn."
     )
 }
 
@@ -29,14 +35,22 @@ pub fn row(input: &Input, m: &Measured) -> String {
     let [t, c, l] = input.counts();
     let rate = |seconds: f64| bytes as f64 / seconds / 1e6;
     format!(
-        "| {} | {bytes} | {t} | {c} | {l} | {} | {} | {} | {} | {} |",
+        "| {} | {bytes} | {t} | {c} | {l} | {} | {} | {} |",
         input.name,
-        time(m.proved),
-        time(m.tuned),
-        three_digits(m.proved / m.tuned),
+        times(m),
         three_digits(rate(m.proved)),
         three_digits(rate(m.tuned)),
     )
+}
+
+pub fn dates_row(name: &str, m: &Measured) -> String {
+    format!("| {name} | {} |", times(m))
+}
+
+/// Both times and their ratio, three columns.
+fn times(m: &Measured) -> String {
+    let ratio = three_digits(m.proved / m.tuned);
+    format!("{} | {} | {ratio}", time(m.proved), time(m.tuned))
 }
 
 pub fn sweep_head(sweep: &Sweep) -> String {
@@ -53,10 +67,8 @@ pub fn sweep_row(size: usize, m: &Measured, before: Option<&Measured>) -> String
         None => String::from("-"),
     };
     format!(
-        "| {size} | {} | {} | {} | {} | {} |",
-        time(m.proved),
-        time(m.tuned),
-        three_digits(m.proved / m.tuned),
+        "| {size} | {} | {} | {} |",
+        times(m),
         to_before(m.proved, |m| m.proved),
         to_before(m.tuned, |m| m.tuned),
     )

@@ -27,8 +27,15 @@ fn samples() -> Vec<Vec<u8>> {
         .collect()
 }
 
+/// The lines of the list of answers: those on dates, or the others. Dates have hyphens; names of sheets have none.
+pub fn listed(on_dates: bool) -> Vec<String> {
+    let text = fs::read_to_string(folder().join("stdout")).expect("the list of answers");
+    let wanted = |line: &&str| line.contains('-') == on_dates;
+    text.lines().filter(wanted).map(String::from).collect()
+}
+
 /// The answer as the programs print it.
-fn printed(answer: Answer, values: usize) -> String {
+pub fn printed(answer: Answer, values: usize) -> String {
     let (word, numbers) = match answer.number {
         0 => ("ok", answer.values[..values].to_vec()),
         number => ("refused", vec![number, answer.values[0]]),
@@ -77,10 +84,9 @@ fn asked(numbers: &[usize]) -> (Call, usize, usize) {
 /// A line of the list is a sheet, what is asked of it, and the answer. A line that is an answer only is that to the sheet written last.
 #[test]
 fn samples_are_answered_as_listed() {
-    let listed = fs::read_to_string(folder().join("stdout")).expect("the list of answers");
     let mut checker = Checker::new();
     let mut written = Vec::new();
-    for line in listed.lines() {
+    for line in listed(false) {
         let words: Vec<&str> = line.split(' ').collect();
         let is_answer = |w: &&str| *w == "ok" || *w == "refused";
         let at = words.iter().position(is_answer).expect("an answer");

@@ -1,4 +1,8 @@
-/* Calls the library from C: admits S, finds a judgment, withdraws lines. Prints nothing if all is as document 01 says. */
+/*
+ * Calls the library from C: admits S, finds a judgment, withdraws lines, numbers days, asks windows. Prints nothing if
+ * all is as document 01 says, and for dates document 02, A1.
+ */
+#include <inttypes.h>
 #include <stdio.h>
 #include <string.h>
 
@@ -100,6 +104,72 @@ static void withdraws(const uint8_t *s)
     expect("the new sheet", mengyubad_admit(out, M9_BYTES, work, WORDS, values), values, MENGYUBAD_OK, 5, 1, 4);
 }
 
+static void numbers_days(void)
+{
+    static const struct {
+        uint32_t date[3];
+        size_t number, day;
+    } cases[] = {
+        {{1970, 1, 1}, MENGYUBAD_OK, 0},
+        {{1970, 1, 2}, MENGYUBAD_OK, 1},
+        {{2000, 2, 28}, MENGYUBAD_OK, 11015}, /* no neighbours */
+        {{2000, 3, 1}, MENGYUBAD_OK, 11017},
+        {{2100, 2, 28}, MENGYUBAD_OK, 47540}, /* neighbours */
+        {{2100, 3, 1}, MENGYUBAD_OK, 47541},
+        {{2199, 12, 31}, MENGYUBAD_OK, 84005},
+        {{2100, 2, 29}, MENGYUBAD_NO_DATE, 0},
+        {{1969, 12, 31}, MENGYUBAD_NO_DATE, 0},
+        {{2200, 1, 1}, MENGYUBAD_NO_DATE, 0},
+        {{0, 1, 1}, MENGYUBAD_NO_DATE, 0},
+        {{1970, 0, 1}, MENGYUBAD_NO_DATE, 0},
+        {{1970, 1, 0}, MENGYUBAD_NO_DATE, 0},
+        {{UINT32_MAX, 1, 1}, MENGYUBAD_NO_DATE, 0},
+        {{1970, UINT32_MAX, 1}, MENGYUBAD_NO_DATE, 0},
+        {{1970, 1, UINT32_MAX}, MENGYUBAD_NO_DATE, 0},
+        {{65536 + 1970, 1, 1}, MENGYUBAD_NO_DATE, 0},
+        {{1970, 65536 + 1, 1}, MENGYUBAD_NO_DATE, 0},
+        {{1970, 1, 65536 + 1}, MENGYUBAD_NO_DATE, 0}
+    };
+    for (size_t i = 0; i < sizeof cases / sizeof *cases; i++) {
+        const uint32_t *date = cases[i].date;
+        size_t values[3] = {9, 9, 9};
+        char what[48];
+        snprintf(what, sizeof what, "day %" PRIu32 "-%" PRIu32 "-%" PRIu32, date[0], date[1], date[2]);
+        expect(what, mengyubad_day_number(date, values), values, cases[i].number, cases[i].day, 0, 0);
+    }
+}
+
+static void asks_windows(void)
+{
+    static const struct {
+        const char *what;
+        uint32_t dates[3][3]; /* the first, the last, the one asked */
+        size_t number, open;
+    } cases[] = {
+        {"all days", {{1970, 1, 1}, {2199, 12, 31}, {2024, 2, 29}}, MENGYUBAD_OK, 1},
+        {"first day", {{2000, 2, 28}, {2000, 3, 1}, {2000, 2, 28}}, MENGYUBAD_OK, 1},
+        {"last day", {{2000, 2, 28}, {2000, 3, 1}, {2000, 3, 1}}, MENGYUBAD_OK, 1},
+        {"day before", {{2000, 2, 28}, {2000, 3, 1}, {2000, 2, 27}}, MENGYUBAD_OK, 0},
+        {"day after", {{2000, 2, 28}, {2000, 3, 1}, {2000, 3, 2}}, MENGYUBAD_OK, 0},
+        {"window of a day", {{2100, 3, 1}, {2100, 3, 1}, {2100, 3, 1}}, MENGYUBAD_OK, 1},
+        {"last before first", {{2100, 3, 1}, {2100, 2, 28}, {2100, 3, 1}}, MENGYUBAD_NO_DAYS, 0},
+        {"no first date", {{2100, 2, 29}, {2100, 3, 1}, {2100, 3, 1}}, MENGYUBAD_NO_DATE, 0},
+        {"no last date", {{2100, 3, 1}, {2100, 2, 29}, {2100, 3, 1}}, MENGYUBAD_NO_DATE, 0},
+        {"no date asked", {{2100, 3, 1}, {2100, 2, 28}, {2100, 2, 29}}, MENGYUBAD_NO_DATE, 0}
+    };
+    for (size_t i = 0; i < sizeof cases / sizeof *cases; i++) {
+        const uint32_t(*dates)[3] = cases[i].dates;
+        size_t values[3] = {9, 9, 9};
+        const size_t number = mengyubad_window(dates[0], dates[1], dates[2], values);
+        expect(cases[i].what, number, values, cases[i].number, cases[i].open, 0, 0);
+    }
+    /* What is only read may overlap. */
+    const uint32_t day[3] = {2024, 2, 29};
+    size_t values[3] = {9, 9, 9};
+    const size_t number = mengyubad_window(day, day, day, values);
+    expect("one date for all three", number, values, MENGYUBAD_OK, 1, 0, 0);
+}
+
 int main(void)
 {
     uint8_t s[S_BYTES];
@@ -107,5 +177,7 @@ int main(void)
     admits(s);
     finds(s);
     withdraws(s);
+    numbers_days();
+    asks_windows();
     return failures != 0;
 }

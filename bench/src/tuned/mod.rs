@@ -1,6 +1,8 @@
-//! Admission, finding and withdrawal, written for speed. The answers and the buffers are those of the proved library.
+//! Admission, finding and withdrawal, day numbers and windows, written for speed. The answers and the buffers are those
+//! of the proved library.
 
 mod contexts;
+pub mod dates;
 mod equality;
 mod images;
 mod index;

@@ -1,5 +1,5 @@
 //! The proved checker, as safe functions. Nothing checks these declarations against the Rattle source: they follow include/mengyubad.h.
-//! A call may take up to 768 KiB of stack (MENGYUBAD_STACK_BYTES), so a thread that calls should have more.
+//! A call on a sheet may take up to 768 KiB of stack (MENGYUBAD_STACK_BYTES), so a thread that calls should have more.
 
 mod c {
     extern "C" {
@@ -26,6 +26,13 @@ mod c {
             work_words: usize,
             out: *mut u8,
             out_length: usize,
+            values: *mut [usize; 3],
+        ) -> usize;
+        pub fn mengyubad_day_number(date: *const [u32; 3], values: *mut [usize; 3]) -> usize;
+        pub fn mengyubad_window(
+            first: *const [u32; 3],
+            last: *const [u32; 3],
+            day: *const [u32; 3],
             values: *mut [usize; 3],
         ) -> usize;
     }
@@ -87,5 +94,21 @@ pub fn withdraw(sheet: &[u8], line: usize, work: &mut [u32], out: &mut [u8]) -> 
             &mut values,
         )
     };
+    Answer { number, values }
+}
+
+/// The day number of a date: year, month, day.
+pub fn day_number(date: [u32; 3]) -> Answer {
+    let mut values = [0; 3];
+    // SAFETY: both arrays live until the call returns, and the library keeps neither.
+    let number = unsafe { c::mengyubad_day_number(&date, &mut values) };
+    Answer { number, values }
+}
+
+/// Whether the window from `first` to `last` is open on a day: 1 or 0.
+pub fn window(first: [u32; 3], last: [u32; 3], day: [u32; 3]) -> Answer {
+    let mut values = [0; 3];
+    // SAFETY: as in `day_number`; the arrays do not overlap.
+    let number = unsafe { c::mengyubad_window(&first, &last, &day, &mut values) };
     Answer { number, values }
 }

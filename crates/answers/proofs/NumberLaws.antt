@@ -6,12 +6,12 @@ use mathlib.Core.List.{List, [], _∷_}
 use Prim.Native.Nat.{ℕ, suc, _+_, _-_, _*_, _/_, _≤_, _<_}
 use native.Mathlib.Numerals.{add-one}
 use native.Mathlib.Omega.{arith}
-use lib.Dec.{leb}
+use lib.Dec.{leb, ltb}
 use lib.ListN.{length, getD, drop, drop-of-length-le}
 use lib.Seq.{drop-cons}
-use borrow.Author.Tests.{le-ltb, lt-ltb, leb-true}
+use borrow.Author.Tests.{le-ltb, lt-ltb, leb-true, ltb-true, ltb-false}
 use Rattle.answers.specs.declared.numbers.Reading.the-variants.{Number, Unreadable}
-use Rattle.answers.specs.Numbers.{isDigit, allDigits, spelled, readFrom, readNumber}
+use Rattle.answers.specs.Numbers.{isDigit, allDigits, isNumeral, spelled, readFrom, readNumber}
 
 -- after i digits the number read so far, with the rest of the text, answers for the whole
 pub record ReadSoFar (text : List ℕ) (number i : ℕ) : Type 0 where
@@ -87,3 +87,47 @@ module _ (text : List ℕ) (number i : ℕ) (so-far : ReadSoFar text number i) w
         small = omega (arith, digit-range byte is);
         answer = with-digit ∙ ap (λ n. readFrom (10 * number + digit-is) (drop n text)) (sym (add-one i));
       }
+
+-- the first i bytes are digits: what follows decides
+pub record DigitsSoFar (text : List ℕ) (i : ℕ) : Type 0 where
+  pub within : i ≤ length text
+  pub rest : allDigits text ≡ allDigits (drop i text)
+
+pub no-digits : (text : List ℕ) → DigitsSoFar text 0
+no-digits text = record { within = omega arith; rest = refl }
+
+some-numeral : (text : List ℕ) → 1 ≤ length text → isNumeral text ≡ allDigits text
+unfolding isNumeral
+some-numeral [] h = absurd (omega arith)
+some-numeral (byte ∷ text) h = refl
+
+empty-numeral : (text : List ℕ) → length text ≤ 0 → false ≡ isNumeral text
+unfolding isNumeral
+empty-numeral [] h = refl
+empty-numeral (byte ∷ text) h = absurd (omega arith)
+
+module _ (text : List ℕ) (i : ℕ) (so-far : DigitsSoFar text i) where
+  pub all-digits : length text ≤ i → ltb 0 i ≡ isNumeral text
+  unfolding allDigits
+  all-digits end = pick (ltb 0 i) refl
+    where
+      pick : (some : Bool) → ltb 0 i ≡ some → some ≡ isNumeral text
+      pick true e =
+          let long : 1 ≤ length text = omega (arith, so-far .within, ltb-true 0 i e) in
+          sym (some-numeral text long ∙ so-far .rest ∙ ap allDigits (drop-of-length-le text end))
+      pick false e = empty-numeral text (omega (arith, ltb-false 0 i e))
+
+  module _ (inside : i < length text) where
+    next : {t : Bool} → isDigit (getD text i 0) ≡ t → allDigits text ≡ (t && allDigits (drop (suc i) text))
+    unfolding allDigits
+    next e =
+        so-far .rest ∙ ap allDigits (drop-cons text i 0 inside) ∙ ap (λ t. t && allDigits (drop (suc i) text)) e
+
+    pub other-byte : isDigit (getD text i 0) ≡ false → false ≡ isNumeral text
+    other-byte e = sym (some-numeral text (omega arith) ∙ next e)
+
+    pub one-digit : isDigit (getD text i 0) ≡ true → DigitsSoFar text (i + 1)
+    one-digit e = record {
+      within = omega arith;
+      rest = next e ∙ ap (λ n. allDigits (drop n text)) (sym (add-one i));
+    }

@@ -93,6 +93,10 @@ whole-line {a} {x} {b} {e} p = (
     long : e ≡ length x
     long = omega (arith, p .place)
 
+-- nothing is put
+pub nothing-put : (l : List ℕ) → Counts 0 l × AtStart [] l l 0
+nothing-put l = ((omega arith, refl), record { long = refl; whole = refl })
+
 -- what is the answer's text
 pub same-text : {a x y b : List ℕ} {e : ℕ} → x ≡ y → AtStart x a b e → AtStart y a b e
 same-text {a = a} {b = b} {e = e} same = subst (λ t. AtStart t a b e) same

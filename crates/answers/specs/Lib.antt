@@ -1,3 +1,5 @@
 pub mod Numbers
+pub mod Parts
+pub mod Dates
 pub mod Text
 pub mod Room

@@ -1,5 +1,5 @@
 -- The numbers that texts spell in decimal.
-use mathlib.Core.Bool.{Bool, true, _&&_, cond}
+use mathlib.Core.Bool.{Bool, true, false, _&&_, cond}
 use mathlib.Core.List.{List, [], _∷_}
 use Prim.Native.Nat.{ℕ, _+_, _-_, _*_}
 use lib.Dec.{ltb, leb}
@@ -18,6 +18,11 @@ isDigit byte = leb 48 byte && leb byte 57
 unfoldable pub allDigits : List ℕ → Bool
 allDigits [] = true
 allDigits (byte ∷ text) = isDigit byte && allDigits text
+
+-- a decimal number in text, however large: digits, at least one
+unfoldable pub isNumeral : List ℕ → Bool
+isNumeral [] = false
+isNumeral (byte ∷ text) = allDigits (byte ∷ text)
 
 -- the number that digits spell behind those of the number before
 unfoldable pub spelled : ℕ → List ℕ → ℕ

@@ -13,6 +13,14 @@ use Rattle.sheets.specs.declared.finding.Found.{Found}
 use Rattle.sheets.specs.declared.finding.Found.the-variants.{Line, Refused as notFound}
 use Rattle.sheets.specs.declared.withdrawal.Withdrawal.{Withdrawal}
 use Rattle.sheets.specs.declared.withdrawal.Withdrawal.the-variants.{Written, Refused as notWritten}
+use Rattle.windows.specs.declared.dates.DayNumber.{DayNumber}
+use Rattle.windows.specs.declared.dates.DayNumber.the-variants.{Day, Refused as noDay}
+use Rattle.windows.specs.declared.access.Access.{Access}
+use Rattle.windows.specs.declared.access.Access.the-variants.{Open, Closed, Refused as noAccess}
+use Rattle.windows.specs.Dates.{dayNumberOf}
+use Rattle.windows.specs.Access.{windowOf, openOn}
+use Rattle.answers.specs.declared.dates.DateReading.{DateReading}
+use Rattle.answers.specs.declared.dates.DateReading.the-variants.{Spelled, Unreadable}
 
 -- how many digits a number has, if that is at most one more than the first argument
 unfoldable pub places : ℕ → ℕ → ℕ
@@ -57,6 +65,28 @@ foundText (notFound number place) = refusedText number place
 unfoldable pub withdrawalText : Withdrawal → List ℕ
 withdrawalText (Written new) = okText new
 withdrawalText (notWritten number place) = refusedText number place
+
+-- document 02, A1: "answers open or closed"
+unfoldable pub accessText : Access → List ℕ
+accessText Open = 111 ∷ 112 ∷ 101 ∷ 110 ∷ end
+accessText Closed = 99 ∷ 108 ∷ 111 ∷ 115 ∷ 101 ∷ 100 ∷ end
+accessText (noAccess number place) = refusedText number place
+
+-- the answer of a window to a date, if all three are dates in text; else nothing
+unfoldable pub windowText : DateReading → DateReading → DateReading → List ℕ
+windowText (Spelled first) (Spelled last) (Spelled day) = accessText (openOn (windowOf first last) day)
+windowText (Spelled first) (Spelled last) Unreadable = []
+windowText (Spelled first) Unreadable day = []
+windowText Unreadable last day = []
+
+unfoldable pub dayText : DayNumber → List ℕ
+dayText (Day day) = okText day
+dayText (noDay number place) = refusedText number place
+
+-- the number of a date's day likewise
+unfoldable pub dateText : DateReading → List ℕ
+dateText (Spelled date) = dayText (dayNumberOf date)
+dateText Unreadable = []
 
 -- bytes stand behind the first at bytes of a buffer, whose length is kept, and end at the given place; the bytes beyond are as they were
 pub record Put (before : List ℕ) (at : ℕ) (bytes after : List ℕ) (stop : ℕ) : Type 0 where

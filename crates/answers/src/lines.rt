@@ -2,11 +2,13 @@
 use sheets::admission::Admission;
 use sheets::finding::Found;
 use sheets::withdrawal::Withdrawal;
-ghost use mathlib.Core.Path.{_≡_};
+use windows::access::Access;
+use windows::dates::DayNumber;
 ghost use Prim.Native.Nat.{_+_, _≤_};
 ghost use lib.ListN.{length};
 ghost use Rattle.io.specs.Counts.{Counts};
-ghost use Rattle.answers.specs.Text.{field, okText, refusedText, admissionText, foundText, withdrawalText, Put, AtStart};
+ghost use Rattle.answers.specs.Text.{field, okText, refusedText, admissionText, foundText, withdrawalText};
+ghost use Rattle.answers.specs.Text.{accessText, dayText, Put, AtStart};
 
 // Puts bytes behind the first `at` bytes of `out`, and answers where they end.
 fn put(out: &mut [u8], at: usize, bytes: &[u8]) -> usize
@@ -93,5 +95,28 @@ pub fn put_withdrawal(answer: Withdrawal, out: &mut [u8; 80]) -> usize
     match answer {
         Withdrawal::Refused { number, place } => put_refusal(number, place, out),
         Withdrawal::Written { length } => put_value(length, out),
+    }
+}
+
+// Puts the line of a window's answer, and answers how many bytes it has.
+pub fn put_access(answer: Access, out: &mut [u8; 80]) -> usize
+    ensures { λ r. ⌜ Counts r (now (out .exit)) ⌝ }
+    ensures { λ r. ⌜ AtStart (accessText answer) (now (out .entry)) (now (out .exit)) r ⌝ }
+{
+    match answer {
+        Access::Refused { number, place } => put_refusal(number, place, out),
+        Access::Open => put(out, 0, b"open\n"),
+        Access::Closed => put(out, 0, b"closed\n"),
+    }
+}
+
+// Puts the line of a day number's answer, and answers how many bytes it has.
+pub fn put_day(answer: DayNumber, out: &mut [u8; 80]) -> usize
+    ensures { λ r. ⌜ Counts r (now (out .exit)) ⌝ }
+    ensures { λ r. ⌜ AtStart (dayText answer) (now (out .entry)) (now (out .exit)) r ⌝ }
+{
+    match answer {
+        DayNumber::Refused { number, place } => put_refusal(number, place, out),
+        DayNumber::Day(day) => put_value(day, out),
     }
 }

@@ -1,7 +1,7 @@
 // Decimal numbers in text.
 use sheets::finding::Wanted;
 ghost use mathlib.Core.Path.{_≡_};
-ghost use Rattle.answers.specs.Numbers.{isDigit, readNumber, fieldOf, requestOf};
+ghost use Rattle.answers.specs.Numbers.{isDigit, isNumeral, readNumber, fieldOf, requestOf};
 
 // What a text spells: a number below 2^64, or none.
 pub enum Reading {
@@ -32,6 +32,20 @@ fn is_digit(byte: u8) -> bool
     ensures { λ r. ⌜ r ≡ isDigit byte ⌝ }
 {
     (48 <= byte) & (byte <= 57)
+}
+
+// Is this a decimal number, of any number of digits?
+pub fn is_numeral(text: &[u8]) -> bool
+    ensures { λ r. ⌜ r ≡ isNumeral (now (text .entry)) ⌝ }
+{
+    let mut i = 0;
+    while i < text.len() {
+        if !is_digit(text[i]) {
+            return false;
+        }
+        i += 1;
+    }
+    0 < i
 }
 
 // The number that the decimal digits of a text spell.

@@ -1,6 +1,10 @@
-// The line of text that answers a sheet: every byte of it follows from the bytes of the sheet and what is asked. A work
-// buffer of 3,072 words serves every sheet.
+// The line of text that is answered: every byte of it follows from what is asked and, where a sheet is asked about,
+// from its bytes. A work buffer of 3,072 words serves every sheet.
+use crate::dates::DateReading;
+use crate::dates::read_date;
+use crate::lines::put_access;
 use crate::lines::put_admission;
+use crate::lines::put_day;
 use crate::lines::put_found;
 use crate::lines::put_withdrawal;
 use sheets::admission::admit;
@@ -8,13 +12,15 @@ use sheets::finding::Wanted;
 use sheets::finding::find;
 use sheets::withdrawal::Withdrawal;
 use sheets::withdrawal::withdraw;
+use windows::access::Window;
 ghost use mathlib.Core.Path.{_≡_};
 ghost use lib.ListN.{length};
 ghost use Rattle.io.specs.Counts.{Counts};
 ghost use Rattle.sheets.specs.Admission.{admitOf};
 ghost use Rattle.sheets.specs.Finding.{findOf};
 ghost use Rattle.sheets.specs.Withdrawal.{withdrawOf, outAfter, Withdrawn};
-ghost use Rattle.answers.specs.Text.{admissionText, foundText, withdrawalText, AtStart};
+ghost use Rattle.answers.specs.Text.{admissionText, foundText, withdrawalText, windowText, dateText, AtStart};
+ghost use Rattle.answers.specs.Dates.{dateIn};
 ghost use Rattle.answers.specs.Room.{Within};
 
 // What a withdrawal answers, and how many bytes its text has.
@@ -59,4 +65,32 @@ pub fn withdrawal_reply(
     let answer = withdraw(sheet, number, &mut work, out);
     let count = put_withdrawal(answer, text);
     WithdrawalReply { answer, count }
+}
+
+// Asks a window with a date, three texts, likewise; nothing is put if one of them is no date in text.
+pub fn window_reply(first: &[u8], last: &[u8], day: &[u8], text: &mut [u8; 80]) -> usize
+    ensures count { λ r. ⌜ Counts r (now (text .exit)) ⌝ }
+    ensures text { λ r. ⌜ AtStart (windowText (dateIn (now (first .entry))) (dateIn (now (last .entry))) (dateIn (now (day .entry)))) (now (text .entry)) (now (text .exit)) r ⌝ }
+{
+    let DateReading::Spelled(first) = read_date(first) else {
+        return 0;
+    };
+    let DateReading::Spelled(last) = read_date(last) else {
+        return 0;
+    };
+    let DateReading::Spelled(day) = read_date(day) else {
+        return 0;
+    };
+    put_access(Window::new(first, last).open_on(day), text)
+}
+
+// Numbers the day of a date likewise.
+pub fn day_reply(date: &[u8], text: &mut [u8; 80]) -> usize
+    ensures count { λ r. ⌜ Counts r (now (text .exit)) ⌝ }
+    ensures text { λ r. ⌜ AtStart (dateText (dateIn (now (date .entry)))) (now (text .entry)) (now (text .exit)) r ⌝ }
+{
+    let DateReading::Spelled(date) = read_date(date) else {
+        return 0;
+    };
+    put_day(date.day_number(), text)
 }

@@ -1,4 +1,5 @@
--- Answers as numbers, for programs in other languages: document 01's number and values for each case. Number 0 is success.
+-- Answers as numbers, for programs in other languages: the papers' number and values for each case. Number 0 is
+-- success.
 use mathlib.Core.Path.{_≡_}
 use mathlib.Core.List.{List, [], _∷_}
 use Prim.Native.Nat.{ℕ}
@@ -10,6 +11,12 @@ use Rattle.sheets.specs.declared.finding.Found.the-variants.{Line, Refused as n
 use Rattle.sheets.specs.declared.finding.Wanted.{Wanted}
 use Rattle.sheets.specs.declared.withdrawal.Withdrawal.{Withdrawal}
 use Rattle.sheets.specs.declared.withdrawal.Withdrawal.the-variants.{Written, Refused as notWritten}
+use Rattle.windows.specs.declared.dates.Date.{Date}
+use Rattle.windows.specs.declared.dates.DayNumber.{DayNumber}
+use Rattle.windows.specs.declared.dates.DayNumber.the-variants.{Day, Refused as noDay}
+use Rattle.windows.specs.declared.access.Access.{Access}
+use Rattle.windows.specs.declared.access.Access.the-variants.{Open, Closed, Refused as noAccess}
+use Rattle.windows.specs.Dates.{dateOf}
 use Rattle.mengyubad.specs.declared.Reply.{Reply}
 
 -- a number with one value; the other two are 0
@@ -31,9 +38,24 @@ unfoldable pub withdrawalReply : Withdrawal → Reply
 withdrawalReply (Written length) = oneValue 0 length
 withdrawalReply (notWritten number place) = oneValue number place
 
+-- the number of a day
+unfoldable pub dayReply : DayNumber → Reply
+dayReply (Day day) = oneValue 0 day
+dayReply (noDay number place) = oneValue number place
+
+-- 1 for open, 0 for closed
+unfoldable pub accessReply : Access → Reply
+accessReply Open = oneValue 0 1
+accessReply Closed = oneValue 0 0
+accessReply (noAccess number place) = oneValue number place
+
 -- five numbers, in the order in which document 01 names them: form, context, s1, s2, s3
 unfoldable pub wantedOf : List ℕ → Wanted
 wantedOf l = record { form = getD l 0 0; context = getD l 1 0; s1 = getD l 2 0; s2 = getD l 3 0; s3 = getD l 4 0 }
+
+-- three numbers: year, month, day
+unfoldable pub dateFrom : List ℕ → Date
+dateFrom l = dateOf (getD l 0 0) (getD l 1 0) (getD l 2 0)
 
 -- a caller is given this reply: its number as the result, its values in three words
 abbrev pub Given : Reply → ℕ → List ℕ → Type 0

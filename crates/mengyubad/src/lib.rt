@@ -1,5 +1,6 @@
-// The library for programs in other languages. Every function answers a number, 0 or that of a refusal, and puts three values: the
-// counts, the line or the length if the number is 0, else the place; what is left over is 0.
+// The library for programs in other languages. Every function answers a number, 0 or that of a refusal, and puts three
+// values: if the number is 0 the counts, the line, the length, the day number, or 1 for open and 0 for closed; else the
+// place. What is left over is 0.
 use sheets::admission::Admission;
 use sheets::admission::admit;
 use sheets::finding::Found;
@@ -7,12 +8,19 @@ use sheets::finding::Wanted;
 use sheets::finding::find;
 use sheets::withdrawal::Withdrawal;
 use sheets::withdrawal::withdraw;
+use windows::access::Access;
+use windows::access::Window;
+use windows::dates::Date;
+use windows::dates::DayNumber;
 ghost use mathlib.Core.Path.{_≡_};
 ghost use lib.ListN.{length};
 ghost use Rattle.sheets.specs.Admission.{admitOf, workAfter};
 ghost use Rattle.sheets.specs.Finding.{findOf};
 ghost use Rattle.sheets.specs.Withdrawal.{withdrawOf, outAfter, Withdrawn};
+ghost use Rattle.windows.specs.Dates.{dayNumberOf};
+ghost use Rattle.windows.specs.Access.{windowOf, openOn};
 ghost use Rattle.mengyubad.specs.Replies.{oneValue, admissionReply, foundReply, withdrawalReply, wantedOf, Given};
+ghost use Rattle.mengyubad.specs.Replies.{dayReply, accessReply, dateFrom};
 
 // A number and three values.
 struct Reply {
@@ -67,6 +75,43 @@ fn withdrawal_reply(answer: Withdrawal) -> Reply
     match answer {
         Withdrawal::Refused { number, place } => single(number, place),
         Withdrawal::Written { length } => single(0, length),
+    }
+}
+
+fn day_reply(answer: DayNumber) -> Reply
+    ensures { λ r. ⌜ r ≡ dayReply answer ⌝ }
+{
+    match answer {
+        DayNumber::Refused { number, place } => single(number, place),
+        DayNumber::Day(day) => single(0, day),
+    }
+}
+
+fn access_reply(answer: Access) -> Reply
+    ensures { λ r. ⌜ r ≡ accessReply answer ⌝ }
+{
+    match answer {
+        Access::Refused { number, place } => single(number, place),
+        Access::Open => single(0, 1),
+        Access::Closed => single(0, 0),
+    }
+}
+
+// A function, since the range of a parameter is known, and that of an element read through a reference is not.
+fn wide(number: u32) -> usize
+    ensures { λ r. ⌜ r ≡ number ⌝ }
+{
+    number as usize
+}
+
+// The date of three numbers.
+fn date_from(numbers: &[u32; 3]) -> Date
+    ensures { λ r. ⌜ r ≡ dateFrom (now (numbers .entry)) ⌝ }
+{
+    Date {
+        year: wide(numbers[0]),
+        month: wide(numbers[1]),
+        day: wide(numbers[2]),
     }
 }
 
@@ -126,4 +171,26 @@ pub extern "C" fn mengyubad_withdraw(
     ensures kept { λ _. ⌜ Withdrawn (now (sheet .entry)) line (now (out .exit)) (withdrawOf (now (sheet .entry)) line (length (now (work .entry))) (length (now (out .entry)))) ⌝ }
 {
     give(withdrawal_reply(withdraw(sheet, line, work, out)), values)
+}
+
+// How many days after 1 January 1970 a date is.
+#[no_mangle]
+pub extern "C" fn mengyubad_day_number(date: &[u32; 3], values: &mut [usize; 3]) -> usize
+    ensures { λ r. ⌜ Given (dayReply (dayNumberOf (dateFrom (now (date .entry))))) r (now (values .exit)) ⌝ }
+{
+    give(day_reply(date_from(date).day_number()), values)
+}
+
+// Whether a window is open on a day: 1 or 0.
+#[no_mangle]
+pub extern "C" fn mengyubad_window(
+    first: &[u32; 3],
+    last: &[u32; 3],
+    day: &[u32; 3],
+    values: &mut [usize; 3],
+) -> usize
+    ensures { λ r. ⌜ Given (accessReply (openOn (windowOf (dateFrom (now (first .entry))) (dateFrom (now (last .entry)))) (dateFrom (now (day .entry))))) r (now (values .exit)) ⌝ }
+{
+    let window = Window::new(date_from(first), date_from(last));
+    give(access_reply(window.open_on(date_from(day))), values)
 }

@@ -1,27 +1,31 @@
-// Runs the sample sheets. Each line of a list names a sheet and the numbers that go with it; the program writes the line and
-// the answer. A sheet that is left after a withdrawal is admitted on a line of its own.
+// Runs the samples. Each line of a list names a sheet and the numbers that go with it, or dates; the program writes the
+// line and the answer. A sheet that is left after a withdrawal is admitted on a line of its own.
 mod text;
 
-use crate::text::behind;
 use crate::text::number_in;
-use crate::text::place_of;
 use crate::text::room_in;
 use answers::input::read_sheet;
 use answers::numbers::Reading;
 use answers::numbers::Request;
 use answers::numbers::field_of;
 use answers::numbers::request_of;
+use answers::parts::behind;
+use answers::parts::place_of;
 use answers::replies::admission_reply;
+use answers::replies::day_reply;
 use answers::replies::search_reply;
+use answers::replies::window_reply;
 use answers::replies::withdrawal_reply;
 use libc::STDOUT_FILENO;
 use sheets::withdrawal::Withdrawal;
 
-// What is done with the sheets of a list.
+// What is done with the sheets or the dates of a list.
 enum Task {
     Admit,
     Find,
     Withdraw,
+    Window,
+    Day,
 }
 
 // Admits a sheet.
@@ -74,10 +78,37 @@ fn withdraw_number(sheet: &[u8], line: &[u8]) {
     withdraw_line(sheet, number, &mut out[..room]);
 }
 
-// Runs one line of a list.
-fn run_line(line: &[u8], task: Task) {
-    io::write_all(STDOUT_FILENO, line);
-    io::write_all(STDOUT_FILENO, b" ");
+// Asks a window with the three dates of a line of the list.
+fn ask_window(line: &[u8]) {
+    let first_end = place_of(line, 0, b' ');
+    let last = behind(line, first_end);
+    let last_end = place_of(line, last, b' ');
+    let day = behind(line, last_end);
+    let mut text = [0u8; 80];
+    let count = window_reply(
+        &line[..first_end],
+        &line[last..last_end],
+        &line[day..],
+        &mut text,
+    );
+    io::write_all(STDOUT_FILENO, &text[..count]);
+    if count == 0 {
+        io::write_all(STDOUT_FILENO, b"unreadable\n");
+    }
+}
+
+// Numbers the day of a line of the list.
+fn number_day(line: &[u8]) {
+    let mut text = [0u8; 80];
+    let count = day_reply(line, &mut text);
+    io::write_all(STDOUT_FILENO, &text[..count]);
+    if count == 0 {
+        io::write_all(STDOUT_FILENO, b"unreadable\n");
+    }
+}
+
+// Runs one line of a list of sheets.
+fn run_sheet(line: &[u8], task: Task) {
     let end = place_of(line, 0, b' ');
     let fd = os::open_read(&line[..end]);
     if fd < 0 {
@@ -88,9 +119,20 @@ fn run_line(line: &[u8], task: Task) {
     let length = read_sheet(fd, &mut sheet).length;
     libc::close(fd);
     match task {
-        Task::Admit => admit_whole(&sheet[..length]),
         Task::Find => find_numbers(&sheet[..length], line),
         Task::Withdraw => withdraw_number(&sheet[..length], line),
+        _ => admit_whole(&sheet[..length]),
+    }
+}
+
+// Runs one line of a list.
+fn run_line(line: &[u8], task: Task) {
+    io::write_all(STDOUT_FILENO, line);
+    io::write_all(STDOUT_FILENO, b" ");
+    match task {
+        Task::Window => ask_window(line),
+        Task::Day => number_day(line),
+        _ => run_sheet(line, task),
     }
 }
 
@@ -122,4 +164,6 @@ fn main() {
     run_list(b"admit.list", Task::Admit);
     run_list(b"find.list", Task::Find);
     run_list(b"withdraw.list", Task::Withdraw);
+    run_list(b"window.list", Task::Window);
+    run_list(b"days.list", Task::Day);
 }

@@ -241,11 +241,19 @@ fn by_library(sheet: &[u8], call: Call, mut buffers: Buffers) -> Outcome {
         Call::Find(wanted) => mengyubad::find(sheet, work, wanted),
         Call::Withdraw(line) => mengyubad::withdraw(sheet, line, work, out),
     };
-    let answer = Answer {
-        number: answer.number,
-        values: answer.values,
-    };
-    Outcome { answer, buffers }
+    Outcome {
+        answer: answer.into(),
+        buffers,
+    }
+}
+
+impl From<mengyubad::Answer> for Answer {
+    fn from(answer: mengyubad::Answer) -> Answer {
+        Answer {
+            number: answer.number,
+            values: answer.values,
+        }
+    }
 }
 
 fn difference(call: Call, wanted: &Outcome, got: &Outcome) -> String {

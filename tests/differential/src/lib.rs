@@ -1,7 +1,8 @@
-//! Compares the proved checker with a second implementation, on sheets made at random.
+//! Compares the proved checker with a second implementation, on sheets made at random and on dates.
 
 pub mod compare;
 pub mod coverage;
+pub mod dates;
 pub mod generate;
 pub mod inputs;
 pub mod mutate;

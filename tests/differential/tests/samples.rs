@@ -1,6 +1,8 @@
-//! The sample sheets that the repository keeps, through the reference and the proved library.
+//! The samples that the repository keeps, sheets and dates, through the reference and the proved library.
 
 use differential::compare::{on_both, Buffers, Call, Outcome};
+use differential::dates;
+use differential::reference::dates::{Calendar, Date};
 use differential::reference::layout::{LINE_ROW, MAX_LENGTH, MAX_TERMS};
 use differential::reference::reading::Reading;
 use differential::reference::Answer;
@@ -89,6 +91,35 @@ fn withdrawals(text: &mut Vec<String>) {
     }
 }
 
+/// The date of a word `YEAR-MONTH-DAY`.
+fn date(word: &str) -> Date {
+    let parts = word.split('-').map(|part| part.parse().expect("a number"));
+    let parts: Vec<u32> = parts.collect();
+    parts.try_into().expect("year, month and day")
+}
+
+/// A row is the first and the last date of a window, and the date asked.
+fn windows(calendar: &Calendar, text: &mut Vec<String>) {
+    for row in rows("window.list") {
+        let call = dates::Call::Window([0, 1, 2].map(|place: usize| date(&row[place])));
+        let answer = dates::on_both(calendar, call).expect("equal answers");
+        let said = match (answer.number, answer.values[0]) {
+            (0, 1) => "open".to_string(),
+            (0, 0) => "closed".to_string(),
+            _ => printed(answer, 1),
+        };
+        text.push(format!("{} {said}", row.join(" ")));
+    }
+}
+
+fn days(calendar: &Calendar, text: &mut Vec<String>) {
+    for row in rows("days.list") {
+        let call = dates::Call::DayNumber(date(&row[0]));
+        let answer = dates::on_both(calendar, call).expect("equal answers");
+        text.push(format!("{} {}", row[0], printed(answer, 1)));
+    }
+}
+
 #[test]
 fn answers_are_those_of_the_samples() {
     let wanted = fs::read_to_string(folder().join("stdout")).expect("the list of answers");
@@ -96,6 +127,9 @@ fn answers_are_those_of_the_samples() {
     admissions(&mut text);
     searches(&mut text);
     withdrawals(&mut text);
+    let calendar = Calendar::walked();
+    windows(&calendar, &mut text);
+    days(&calendar, &mut text);
     let wanted: Vec<&str> = wanted.lines().collect();
     assert_eq!(text.len(), wanted.len());
     for (got, wanted) in text.iter().zip(wanted) {

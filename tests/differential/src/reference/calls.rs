@@ -3,21 +3,7 @@
 use super::layout::{set_word, word, Counts, LINE_ROW};
 use super::reading::Reading;
 use super::rules::premise_count;
-use super::{Answer, Refusal};
-
-fn refused(number: usize, place: usize) -> Answer {
-    Answer {
-        number,
-        values: [place, 0, 0],
-    }
-}
-
-fn done(value: usize) -> Answer {
-    Answer {
-        number: 0,
-        values: [value, 0, 0],
-    }
-}
+use super::{done, refused, Answer, Refusal};
 
 /// The calls on a sheet that is read already.
 impl Reading {

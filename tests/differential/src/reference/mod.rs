@@ -1,7 +1,9 @@
-//! A second implementation of document 01, written from the papers: plain trees, real shift and substitution, and each rule by building what it concludes.
+//! A second implementation of document 01, written from the papers: plain trees, real shift and substitution, and each
+//! rule by building what it concludes. Of document 02, A1: the calendar, walked day by day.
 
 mod calls;
 mod contexts;
+pub mod dates;
 mod equality;
 pub mod judgments;
 pub mod layout;
@@ -16,6 +18,20 @@ mod typing;
 pub struct Answer {
     pub number: usize,
     pub values: [usize; 3],
+}
+
+fn refused(number: usize, place: usize) -> Answer {
+    Answer {
+        number,
+        values: [place, 0, 0],
+    }
+}
+
+fn done(value: usize) -> Answer {
+    Answer {
+        number: 0,
+        values: [value, 0, 0],
+    }
 }
 
 /// The number and the place of a refusal.

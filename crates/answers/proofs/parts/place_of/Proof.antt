@@ -3,9 +3,9 @@
 use Prim.Native.Nat.{_-_}
 use borrow.Author.Needs.{needs}
 use lib.ListN.{length}
-use Rattle.samples.proofs.TextLaws.{Passed, none-passed, at-end, found, passes}
-use Rattle.samples.proofs.text.place_of.Statement.{statement}
-use Rattle.samples.proofs.text.place_of.Tie as tie
+use Rattle.answers.proofs.PartLaws.{Passed, none-passed, at-end, found, passes}
+use Rattle.answers.proofs.parts.place_of.Statement.{statement}
+use Rattle.answers.proofs.parts.place_of.Tie as tie
 
 abbrev Inv-loop : tie.InvT-loop
 Inv-loop text from byte i₀ i = Passed text from byte i
