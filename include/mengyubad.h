@@ -1,23 +1,26 @@
 /*
- * Mengyubad: admission of derivation sheets, finding and withdrawal of a line, day numbers and reading windows.
+ * Mengyubad: admission of derivation sheets, finding and withdrawal of a line, marking of normal terms, day numbers and
+ * reading windows.
  *
  * Link libmengyubad.a (`rt staticlib mengyubad` writes it to target/staticlib; x86-64). What each function answers and leaves in the
  * buffers is proved: the contracts stand in crates/mengyubad/src/lib.rt, and the comments here say them in words. docs/FORMAT.md
- * describes sheets and dates.
+ * describes sheets, normal terms and dates.
  *
  * What C owes: no pointer is null, even where its length is 0; each points to as many elements as its length says; a
  * buffer that is written overlaps no other; MENGYUBAD_STACK_BYTES of stack are free. Any bytes, lengths and numbers may
  * be handed over. The functions have no state of their own, allocate nothing and keep no pointer.
  *
- * Stack: terms are walked by recursion, at most 3,072 levels deep. Measured on admission, which finding and withdrawal
- * begin with, by tests/c/stack.c: a level takes 240 bytes where a term is substituted in and fewer where it is raised,
- * and the rest 12.6 KB, so that 3,072 levels take 750 KB. The deepest walk of a sheet that it builds, some 2,030
- * levels, takes 452 KB. The two functions on dates walk no terms and need little stack.
+ * Stack: terms are walked by recursion, at most 3,072 levels deep. Measured on admission, which the other functions on
+ * sheets begin with, by tests/c/stack.c: a level takes 240 bytes where a term is substituted in and fewer where it is
+ * raised, and the rest 12.6 KB, so that 3,072 levels take 750 KB. The deepest walk of a sheet that it builds, some
+ * 2,030 levels, takes 452 KB. A normal term of 3,072 levels is marked in 642 KB, measured there too. The two functions
+ * on dates walk no terms and need little stack.
  *
  * Every function returns 0, or the number of a refusal, and sets all three words of `values`:
  *   0       mengyubad_admit: T, C, L; mengyubad_find: the line, 0, 0; mengyubad_withdraw: the new length, 0, 0;
- *           mengyubad_day_number: the day number, 0, 0; mengyubad_window: 1 for open or 0 for closed, 0, 0
- *   1 to 16 the place, 0, 0
+ *           mengyubad_normal: 1 for yes or 0 for no, 0, 0; mengyubad_day_number: the day number, 0, 0;
+ *           mengyubad_window: 1 for open or 0 for closed, 0, 0
+ *   1 to 17 the place, 0, 0
  *
  * The work buffer takes the sizes of the terms, one word each; MENGYUBAD_MOST_TERMS words serve every sheet. What it held does not
  * matter. Afterwards:
@@ -63,7 +66,8 @@ enum mengyubad_number {
     MENGYUBAD_OUT_SHORT = 13,       /* withdrawal, output under the new length: 0 */
     MENGYUBAD_NOT_FOUND = 14,       /* finding, no line has those five numbers: 0 */
     MENGYUBAD_NO_DATE = 15,         /* a date that does not exist, or outside 1970 to 2199: 0 */
-    MENGYUBAD_NO_DAYS = 16          /* a window whose last date is before its first: 0 */
+    MENGYUBAD_NO_DAYS = 16,         /* a window whose last date is before its first: 0 */
+    MENGYUBAD_NO_TERM = 17          /* a term number not below T: the term number */
 };
 
 /* Admits a sheet. Returns 0 or 1 to 10. */
@@ -83,6 +87,15 @@ size_t mengyubad_find(const uint8_t *sheet, size_t sheet_length, uint32_t *work,
  */
 size_t mengyubad_withdraw(const uint8_t *sheet, size_t sheet_length, size_t line, uint32_t *work, size_t work_words, uint8_t *out,
                           size_t out_length, size_t values[3]);
+
+/*
+ * Admits a sheet, then says whether the term with number `term` is normal. Lambda, pair, Pi, Sigma, succ, universe, Nat
+ * and zero are normal if their parts are. A neutral term is normal: a variable; or an application whose function, a
+ * projection whose argument or an ind whose number is neutral, its other parts being normal. No beta step applies at
+ * any place in a normal term. Returns 0, 1 to 10, or 17.
+ */
+size_t mengyubad_normal(const uint8_t *sheet, size_t sheet_length, size_t term, uint32_t *work, size_t work_words,
+                        size_t values[3]);
 
 /* Gives a date its day number. Returns 0 or 15. */
 size_t mengyubad_day_number(const uint32_t date[3], size_t values[3]);

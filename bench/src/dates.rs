@@ -81,7 +81,7 @@ mod tests {
     use super::{drawn, DayNumber, Question, Window};
     use crate::agree::alike_on_dates;
     use crate::random::Random;
-    use crate::samples::{listed, printed};
+    use crate::samples::{listed, printed, Part};
     use crate::tuned::dates::Date;
     use mengyubad::Answer;
 
@@ -110,7 +110,7 @@ mod tests {
 
     #[test]
     fn dates_are_answered_as_listed() {
-        let lines = listed(true);
+        let lines = listed(Part::Dates);
         assert!(!lines.is_empty());
         for line in lines {
             let words: Vec<&str> = line.split(' ').collect();

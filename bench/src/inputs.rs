@@ -3,6 +3,7 @@
 use crate::sheets;
 use crate::tuned::Checker;
 use mengyubad::Answer;
+use std::cmp::Reverse;
 
 /// What is asked of a sheet.
 #[derive(Clone, Copy)]
@@ -10,6 +11,7 @@ pub enum Call {
     Admit,
     Find([u32; 5]),
     Withdraw(usize),
+    Normal(usize),
 }
 
 impl Call {
@@ -19,6 +21,7 @@ impl Call {
             Call::Admit => mengyubad::admit(sheet, work),
             Call::Find(wanted) => mengyubad::find(sheet, work, wanted),
             Call::Withdraw(n) => mengyubad::withdraw(sheet, n, work, out),
+            Call::Normal(term) => mengyubad::normal(sheet, term, work),
         }
     }
 
@@ -34,6 +37,7 @@ impl Call {
             Call::Admit => checker.admit(sheet, work),
             Call::Find(wanted) => checker.find(sheet, work, wanted),
             Call::Withdraw(n) => checker.withdraw(sheet, n, work, out),
+            Call::Normal(term) => checker.normal(sheet, term, work),
         }
     }
 }
@@ -59,6 +63,17 @@ fn admit(name: &str, sheet: Vec<u8>) -> Input {
     }
 }
 
+/// The normal term with the most nodes.
+fn largest_normal(sheet: &[u8]) -> usize {
+    let mut checker = Checker::new();
+    let mut sizes = [0; 3072];
+    let terms = checker.admit(sheet, &mut sizes).values[0];
+    let mut order: Vec<usize> = (0..terms).collect();
+    order.sort_by_key(|&term| Reverse(sizes[term]));
+    let is_normal = |&term: &usize| checker.normal(sheet, term, &mut sizes).values[0] == 1;
+    order.into_iter().find(is_normal).expect("a normal term")
+}
+
 impl Input {
     /// T, C and L.
     pub fn counts(&self) -> [usize; 3] {
@@ -72,17 +87,27 @@ impl Input {
         [0, 2, 3, 4, 5].map(|j| u32::from(u16::from_le_bytes([line[2 * j], line[2 * j + 1]])))
     }
 
-    /// The admission, a search for the last line's judgment, and the withdrawal of the last line.
-    fn all_calls(self) -> [Input; 3] {
-        let [_, _, lines] = self.counts();
-        let with = |word: &str, call| Input {
+    /// Another call on the sheet that is admitted.
+    fn with(&self, word: &str, call: Call) -> Input {
+        Input {
             name: self.name.replacen("admit", word, 1),
             sheet: self.sheet.clone(),
             call,
-        };
-        let find = with("find in", Call::Find(self.last_judgment()));
-        let withdraw = with("withdraw from", Call::Withdraw(lines - 1));
-        [self, find, withdraw]
+        }
+    }
+
+    /// The question whether the normal term with the most nodes is normal.
+    fn normal(&self) -> Input {
+        self.with("normal in", Call::Normal(largest_normal(&self.sheet)))
+    }
+
+    /// The admission, a search for the last line's judgment, the withdrawal of the last line, and `normal`.
+    fn all_calls(self) -> [Input; 4] {
+        let [_, _, lines] = self.counts();
+        let find = self.with("find in", Call::Find(self.last_judgment()));
+        let withdraw = self.with("withdraw from", Call::Withdraw(lines - 1));
+        let normal = self.normal();
+        [self, find, withdraw, normal]
     }
 }
 
@@ -107,7 +132,24 @@ pub fn single() -> Vec<Input> {
         ("induction steps, large motive", sheets::induction_steps),
     ];
     all.extend(trees.map(|(name, build)| admit(name, build(LARGEST, 3072, 1024))));
+    all.extend(normal_terms());
     all
+}
+
+/// Sheets with normal terms that are long to walk: the admission, and the question about the largest of them.
+fn normal_terms() -> Vec<Input> {
+    let sheets = [
+        ("doubled pairs", sheets::doubled_pairs()),
+        ("nested arguments", sheets::nested_arguments(3072)),
+        ("nested motives", sheets::nested_motives(3072)),
+        ("shared function", sheets::shared_function(31, 3072)),
+    ];
+    let asked = |(name, sheet)| {
+        let admission = admit(name, sheet);
+        let normal = admission.normal();
+        [admission, normal]
+    };
+    sheets.into_iter().flat_map(asked).collect()
 }
 
 pub fn sweeps() -> Vec<Sweep> {

@@ -1,4 +1,5 @@
-//! Measures the proved library against a tuned checker, and prints the tables.
+//! `bench [WORD]`: measures the proved library against a tuned checker, and prints the tables; with a word, the rows of
+//! the first table that have it in their name.
 
 mod agree;
 mod dates;
@@ -22,17 +23,27 @@ fn main() {
         std::process::exit(2);
     }
     let mut bench = Bench::new();
-    measure_single(&mut bench);
-    measure_dates();
-    for sweep in inputs::sweeps() {
-        measure_sweep(&mut bench, &sweep);
+    match std::env::args().nth(1) {
+        Some(word) => measure_single(&mut bench, &word),
+        None => measure_all(&mut bench),
     }
     println!("\n{} {}", report::note(), report::processor());
 }
 
-fn measure_single(bench: &mut Bench) {
+fn measure_all(bench: &mut Bench) {
+    measure_single(bench, "");
+    measure_dates();
+    for sweep in inputs::sweeps() {
+        measure_sweep(bench, &sweep);
+    }
+}
+
+/// Measures the single inputs whose name has the word.
+fn measure_single(bench: &mut Bench, word: &str) {
     println!("{}", report::HEAD);
-    for input in inputs::single() {
+    let mut inputs = inputs::single();
+    inputs.retain(|input| input.name.contains(word));
+    for input in inputs {
         let measured = run(bench, &input);
         println!("{}", report::row(&input, &measured));
     }

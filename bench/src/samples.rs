@@ -1,4 +1,4 @@
-//! Tests: the sample sheets with their known answers, and damaged sheets, on both sides.
+//! Tests: the sample sheets and their terms with their known answers, and damaged sheets, on both sides.
 
 use crate::agree;
 use crate::inputs::Call;
@@ -19,7 +19,10 @@ fn sample(name: &str) -> Vec<u8> {
 
 /// All sample sheets.
 fn samples() -> Vec<Vec<u8>> {
-    let entries = fs::read_dir(folder().join("data")).expect("the folder of samples");
+    let folders = ["data", "data/normal"].map(|name| folder().join(name));
+    let entries = folders
+        .iter()
+        .flat_map(|folder| fs::read_dir(folder).expect("a folder of samples"));
     let paths = entries.map(|entry| entry.expect("an entry").path());
     let sheets = paths.filter(|path| path.extension().is_some_and(|e| e == "sheet"));
     sheets
@@ -27,11 +30,25 @@ fn samples() -> Vec<Vec<u8>> {
         .collect()
 }
 
-/// The lines of the list of answers: those on dates, or the others. Dates have hyphens; names of sheets have none.
-pub fn listed(on_dates: bool) -> Vec<String> {
+/// The parts of the list of answers, in their order: on sheets and their lines, on dates, on terms.
+pub enum Part {
+    Sheets,
+    Dates,
+    Terms,
+}
+
+/// The lines of a part. Dates have hyphens; names of sheets have none.
+pub fn listed(part: Part) -> Vec<String> {
     let text = fs::read_to_string(folder().join("stdout")).expect("the list of answers");
-    let wanted = |line: &&str| line.contains('-') == on_dates;
-    text.lines().filter(wanted).map(String::from).collect()
+    let lines: Vec<String> = text.lines().map(String::from).collect();
+    let on_date = |line: &String| line.contains('-');
+    let first = lines.iter().position(on_date).expect("a date");
+    let behind = 1 + lines.iter().rposition(on_date).expect("a date");
+    match part {
+        Part::Sheets => lines[..first].to_vec(),
+        Part::Dates => lines[first..behind].to_vec(),
+        Part::Terms => lines[behind..].to_vec(),
+    }
 }
 
 /// The answer as the programs print it.
@@ -86,7 +103,7 @@ fn asked(numbers: &[usize]) -> (Call, usize, usize) {
 fn samples_are_answered_as_listed() {
     let mut checker = Checker::new();
     let mut written = Vec::new();
-    for line in listed(false) {
+    for line in listed(Part::Sheets) {
         let words: Vec<&str> = line.split(' ').collect();
         let is_answer = |w: &&str| *w == "ok" || *w == "refused";
         let at = words.iter().position(is_answer).expect("an answer");
@@ -107,11 +124,29 @@ fn samples_are_answered_as_listed() {
     }
 }
 
+/// A line of the list is a sheet, a term and the answer.
 #[test]
-fn every_line_of_the_samples_is_found_and_withdrawn_alike() {
+fn terms_are_answered_as_listed() {
+    let mut checker = Checker::new();
+    let lines = listed(Part::Terms);
+    assert!(!lines.is_empty());
+    for line in lines {
+        let words: Vec<&str> = line.split(' ').collect();
+        let call = Call::Normal(words[1].parse().expect("a number"));
+        let said = match alike(&mut checker, &sample(words[0]), call, 3072, 0).0 {
+            Answer { number: 0, values } => ["no", "yes"][values[0]].to_string(),
+            refusal => printed(refusal, 1),
+        };
+        assert_eq!(said, words[2..].join(" "), "{line}");
+    }
+}
+
+#[test]
+fn every_line_and_term_of_the_samples_is_answered_alike() {
     let mut checker = Checker::new();
     for sheet in samples() {
         lines_are_alike(&mut checker, &sheet);
+        terms_are_alike(&mut checker, &sheet);
     }
 }
 
@@ -127,6 +162,16 @@ fn lines_are_alike(checker: &mut Checker, sheet: &[u8]) {
         alike(Call::Withdraw(n), terms + 1, length.saturating_sub(20));
         alike(Call::Withdraw(n), terms, length.saturating_sub(21));
     }
+}
+
+/// All terms of a small table and some of a large one, the last among them; then none.
+fn terms_are_alike(checker: &mut Checker, sheet: &[u8]) {
+    let (terms, _) = stated(sheet);
+    let asked = (0..terms).rev().step_by(1 + terms / 300);
+    for term in asked.chain([terms]) {
+        alike(checker, sheet, Call::Normal(term), terms, 0);
+    }
+    alike(checker, sheet, Call::Normal(0), terms.saturating_sub(1), 0);
 }
 
 /// Changes one word of a sheet: by one, to a small number, or to that of another place.
@@ -155,13 +200,16 @@ fn damaged_sheets_are_answered_alike() {
     all.push(sheets::beta_steps(4, 0, 400));
     all.push(sheets::induction_steps(4, 0, 400));
     let mut checker = Checker::new();
-    let mut answered = [0; 15];
+    let mut answered = [0; 18];
     for round in 0..40_000 {
         let sheet = damaged(&all[round % all.len()], &mut random);
-        let call = Call::Withdraw(random.below(30));
+        let call = match random.below(2) {
+            0 => Call::Withdraw(random.below(30)),
+            _ => Call::Normal(random.below(30)),
+        };
         let (answer, _) = alike(&mut checker, &sheet, call, 3072, sheet.len());
         answered[answer.number] += 1;
     }
-    let expected = [0, 2, 3, 5, 6, 8, 9, 10, 11, 12];
+    let expected = [0, 2, 3, 5, 6, 8, 9, 10, 11, 12, 17];
     assert!(expected.iter().all(|&n| answered[n] > 0), "{answered:?}");
 }

@@ -1,6 +1,6 @@
 /*
- * Calls the library from C: admits S, finds a judgment, withdraws lines, numbers days, asks windows. Prints nothing if
- * all is as document 01 says, and for dates document 02, A1.
+ * Calls the library from C: admits S, finds a judgment, withdraws lines, marks normal terms, numbers days and asks
+ * windows. Prints nothing if all is as document 01 says, and for dates and normal terms document 02, A1 and A2.
  */
 #include <inttypes.h>
 #include <stdio.h>
@@ -42,6 +42,14 @@ static void put_word(uint8_t **at, unsigned word)
     *(*at)++ = (uint8_t)(word / 256);
 }
 
+static void put_trailer(uint8_t **at, unsigned terms, unsigned contexts, unsigned lines)
+{
+    const unsigned to_lines = 20 * lines, to_contexts = to_lines + 4 * contexts, to_terms = to_contexts + 10 * terms;
+    const unsigned trailer[] = {terms, contexts, lines, 1, to_terms, to_contexts, to_lines, 0x4C44};
+    for (size_t i = 0; i < 8; i++)
+        put_word(at, trailer[i]);
+}
+
 /* The sheet S of document 01, "Sample sheets", with its first so many lines. */
 static size_t sample(uint8_t *sheet, unsigned lines)
 {
@@ -55,9 +63,7 @@ static size_t sample(uint8_t *sheet, unsigned lines)
     uint8_t *at = sheet;
     for (size_t i = 0; i < 27 + 10 * (size_t)lines; i++)
         put_word(&at, rows[i]);
-    const unsigned trailer[] = {5, 1, lines, 1, 54 + 20 * lines, 4 + 20 * lines, 20 * lines, 0x4C44};
-    for (size_t i = 0; i < 8; i++)
-        put_word(&at, trailer[i]);
+    put_trailer(&at, 5, 1, lines);
     return (size_t)(at - sheet);
 }
 
@@ -102,6 +108,81 @@ static void withdraws(const uint8_t *s)
     expect_same("S without line 4", out, m9, M9_BYTES);
     expect_same("output beyond", out + M9_BYTES, untouched, S_BYTES - M9_BYTES);
     expect("the new sheet", mengyubad_admit(out, M9_BYTES, work, WORDS, values), values, MENGYUBAD_OK, 5, 1, 4);
+}
+
+/* Every term of S is normal. */
+static void marks_normal(const uint8_t *s)
+{
+    static const struct {
+        const char *what;
+        size_t length, term, words, number, value;
+        const uint32_t *left;
+    } cases[] = {
+        {"term Nat", S_BYTES, 0, WORDS, MENGYUBAD_OK, 1, sizes},
+        {"term U_0", S_BYTES, 1, 5, MENGYUBAD_OK, 1, sizes},
+        {"term variable 0", S_BYTES, 2, WORDS, MENGYUBAD_OK, 1, sizes},
+        {"term lambda(2)", S_BYTES, 3, 5, MENGYUBAD_OK, 1, sizes},
+        {"term Pi(0, 0)", S_BYTES, 4, WORDS, MENGYUBAD_OK, 1, sizes},
+        {"term 5", S_BYTES, 5, WORDS, MENGYUBAD_NO_TERM, 5, sizes},
+        {"term 65536", S_BYTES, 65536, 5, MENGYUBAD_NO_TERM, 65536, sizes},
+        {"greatest number", S_BYTES, SIZE_MAX, WORDS, MENGYUBAD_NO_TERM, SIZE_MAX, sizes},
+        {"term 0 with 4 words", S_BYTES, 0, 4, MENGYUBAD_WORK_SHORT, 0, poison},
+        {"term 5 with 4 words", S_BYTES, 5, 4, MENGYUBAD_WORK_SHORT, 0, poison},
+        {"term 5 of 15 bytes", 15, 5, WORDS, MENGYUBAD_LENGTH, 0, poison}
+    };
+    for (size_t i = 0; i < sizeof cases / sizeof *cases; i++) {
+        uint32_t work[WORDS];
+        size_t values[3] = {9, 9, 9};
+        memcpy(work, poison, sizeof work);
+        const size_t number = mengyubad_normal(s, cases[i].length, cases[i].term, work, cases[i].words, values);
+        expect(cases[i].what, number, values, cases[i].number, cases[i].value, 0, 0);
+        expect_same(cases[i].what, work, cases[i].left, sizeof work);
+    }
+}
+
+/* A sheet of terms alone. */
+static void marks_normal_alone(void)
+{
+    static const struct {
+        const char *what;
+        unsigned row[5];
+        uint32_t size;
+        size_t normal;
+    } terms[] = {
+        {"variable 0", {1, 0, 0, 0, 0}, 1, 1},
+        {"zero", {11, 0, 0, 0, 0}, 1, 1},
+        {"Nat", {10, 0, 0, 0, 0}, 1, 1},
+        {"lambda(0)", {4, 0, 0, 0, 0}, 2, 1},
+        {"(zero, zero)", {7, 1, 1, 0, 0}, 3, 1},
+        {"succ(zero)", {12, 1, 0, 0, 0}, 2, 1},
+        {"zero zero", {5, 1, 1, 0, 0}, 3, 0},
+        {"(lambda 0) zero", {5, 3, 1, 0, 0}, 4, 0},
+        {"first((zero, zero))", {8, 4, 0, 0, 0}, 4, 0},
+        {"second((zero, zero))", {9, 4, 0, 0, 0}, 4, 0},
+        {"ind with zero", {13, 2, 1, 1, 0}, 5, 0},
+        {"ind with succ(zero)", {13, 2, 5, 1, 0}, 6, 0},
+        {"ind with variable 0", {13, 2, 0, 1, 0}, 5, 1},
+        {"variable 0 at zero", {5, 0, 1, 0, 0}, 3, 1},
+        {"variable 0 at zero zero", {5, 0, 6, 0, 0}, 5, 0},
+        {"lambda(zero zero)", {4, 6, 0, 0, 0}, 4, 0},
+        {"first of ind with variable 0", {8, 12, 0, 0, 0}, 6, 1},
+        {"ind with zero zero as its step", {13, 2, 0, 1, 6}, 7, 0}
+    };
+    enum { TERMS = sizeof terms / sizeof *terms, BYTES = 10 * TERMS + 16 };
+    uint8_t sheet[BYTES], *at = sheet;
+    uint32_t left[TERMS + 1] = {[TERMS] = 7};
+    for (size_t i = 0; i < 5 * TERMS; i++)
+        put_word(&at, terms[i / 5].row[i % 5]);
+    put_trailer(&at, TERMS, 0, 0);
+    for (size_t term = 0; term < TERMS; term++)
+        left[term] = terms[term].size;
+    for (size_t term = 0; term < TERMS; term++) {
+        uint32_t work[TERMS + 1] = {[TERMS] = 7};
+        size_t values[3] = {9, 9, 9};
+        const size_t number = mengyubad_normal(sheet, BYTES, term, work, TERMS + 1, values);
+        expect(terms[term].what, number, values, MENGYUBAD_OK, terms[term].normal, 0, 0);
+        expect_same(terms[term].what, work, left, sizeof work);
+    }
 }
 
 static void numbers_days(void)
@@ -177,6 +258,8 @@ int main(void)
     admits(s);
     finds(s);
     withdraws(s);
+    marks_normal(s);
+    marks_normal_alone();
     numbers_days();
     asks_windows();
     return failures != 0;

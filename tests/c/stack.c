@@ -1,11 +1,15 @@
 /*
- * Measures the stack that admission takes, on a stack of its own that is painted before each call. With no argument it
- * prints nothing, and it fails if the header's figure does not cover 3,072 levels; with one it prints what it measured.
+ * Measures the stack that admission and the marking of a normal term take, on a stack of its own that is painted before
+ * each call. With no argument it prints nothing, and it fails if the header's figure does not cover 3,072 levels; with
+ * one it prints what it measured.
  *
  * Terms are walked by recursion. Each level of a typed term has a line of its own, so that the lines of a sheet allow a
  * term of some thousand levels. Two sheets are built over c, which is succ^n of a variable: E-APPABS substitutes in c
  * alone, and E-INDSUC puts for y an ind that holds c again, so that its walk goes through c twice, the second time only
  * to raise it. What 3,072 levels would take follows from the greater growth.
+ *
+ * A term need not be typed to be marked, so that sheets of terms alone have all 3,072 levels. Where a neutral term is a
+ * part that must be normal, a level is asked twice: whether it is normal, and then whether it is neutral.
  */
 #define _GNU_SOURCE
 #include <stdio.h>
@@ -20,7 +24,7 @@ static uint8_t stack[8 * 1024 * 1024];
 static uint8_t sheet[MENGYUBAD_MOST_BYTES];
 static size_t length;
 static unsigned terms, contexts, lines;
-static size_t number;
+static int succeeded;
 static ucontext_t here, there;
 
 static void put_word(unsigned word)
@@ -58,12 +62,17 @@ static unsigned successors(unsigned row, unsigned count)
     return row;
 }
 
+static void clear(void)
+{
+    length = terms = contexts = lines = 0;
+}
+
 enum { NAT, UNIVERSE, ZERO, VARIABLE, FIRST_SUCCESSOR };
 
 /* The rows that both sheets have, Nat, U_0, zero, variable 0 and succ^n of that: the row of c. */
 static unsigned begin(unsigned n)
 {
-    length = terms = contexts = lines = 0;
+    clear();
     term(10, 0, 0, 0, 0);
     term(2, 0, 0, 0, 0);
     term(11, 0, 0, 0, 0);
@@ -113,15 +122,44 @@ static void build_induction(unsigned n)
     end();
 }
 
-static void admit(void)
+/* n rows, each behind the first the application of variable 0 to the row before. */
+static void build_arguments(unsigned n)
 {
-    static uint32_t work[MENGYUBAD_MOST_TERMS];
-    size_t values[3];
-    number = mengyubad_admit(sheet, length, work, MENGYUBAD_MOST_TERMS, values);
+    clear();
+    term(1, 0, 0, 0, 0);
+    while (terms < n)
+        term(5, 0, terms - 1, 0, 0);
+    end();
 }
 
-/* The bytes of stack that the admission of a sheet takes; 0 if it is not admitted. */
-static size_t taken(void (*build)(unsigned), unsigned n)
+/* The same, with the row before as the step of an ind of variable 0. */
+static void build_steps(unsigned n)
+{
+    clear();
+    term(1, 0, 0, 0, 0);
+    while (terms < n)
+        term(13, 0, 0, 0, terms - 1);
+    end();
+}
+
+static uint32_t work[MENGYUBAD_MOST_TERMS];
+
+static void admit(void)
+{
+    size_t values[3];
+    succeeded = mengyubad_admit(sheet, length, work, MENGYUBAD_MOST_TERMS, values) == MENGYUBAD_OK;
+}
+
+/* Asks for the last term. */
+static void mark(void)
+{
+    size_t values[3];
+    const size_t number = mengyubad_normal(sheet, length, terms - 1, work, MENGYUBAD_MOST_TERMS, values);
+    succeeded = number == MENGYUBAD_OK && values[0] == 1;
+}
+
+/* The bytes of stack that a call on a sheet takes; 0 if it does not succeed. */
+static size_t taken(void (*call)(void), void (*build)(unsigned), unsigned n)
 {
     build(n);
     memset(stack, PAINT, sizeof stack);
@@ -129,30 +167,56 @@ static size_t taken(void (*build)(unsigned), unsigned n)
     there.uc_stack.ss_sp = stack;
     there.uc_stack.ss_size = sizeof stack;
     there.uc_link = &here;
-    makecontext(&there, admit, 0);
+    makecontext(&there, call, 0);
     swapcontext(&here, &there);
     size_t untouched = 0;
     while (untouched < sizeof stack && stack[untouched] == PAINT)
         untouched++;
-    return number == MENGYUBAD_OK ? sizeof stack - untouched : 0;
+    return succeeded ? sizeof stack - untouched : 0;
+}
+
+static size_t greater(size_t a, size_t b)
+{
+    return a > b ? a : b;
+}
+
+/* What admission takes at 3,072 levels; 0 if a sheet is not admitted, or takes no stack. */
+static size_t admission(int told)
+{
+    const size_t flat = taken(admit, build_application, 0), once = taken(admit, build_application, LEVELS);
+    const size_t twice = taken(admit, build_induction, LEVELS);
+    if (flat == 0 || once <= flat || twice <= once)
+        return 0;
+    const size_t whole = flat + greater(once - flat, twice - once) * MOST_LEVELS / LEVELS;
+    if (told)
+        printf("admission: no level %zu, %d levels %zu, twice as many %zu, so %d levels %zu bytes\n", flat, LEVELS,
+               once, twice, MOST_LEVELS, whole);
+    return whole;
+}
+
+/* What the marking of a normal term takes at 3,072 levels; 0 if it is not marked. */
+static size_t marking(int told)
+{
+    const size_t arguments = taken(mark, build_arguments, MOST_LEVELS), steps = taken(mark, build_steps, MOST_LEVELS);
+    if (told)
+        printf("marking: %d levels of applications %zu, of inductions %zu bytes\n", MOST_LEVELS, arguments, steps);
+    return arguments == 0 || steps == 0 ? 0 : greater(arguments, steps);
+}
+
+static int is_covered(const char *what, size_t bytes)
+{
+    if (bytes == 0)
+        fprintf(stderr, "stack: %s fails, or takes no stack\n", what);
+    else if (bytes > MENGYUBAD_STACK_BYTES)
+        fprintf(stderr, "stack: %s at %d levels takes %zu bytes, over %d\n", what, MOST_LEVELS, bytes,
+                MENGYUBAD_STACK_BYTES);
+    return bytes != 0 && bytes <= MENGYUBAD_STACK_BYTES;
 }
 
 int main(int argc, char **argv)
 {
     (void)argv;
-    const size_t flat = taken(build_application, 0), once = taken(build_application, LEVELS);
-    const size_t twice = taken(build_induction, LEVELS);
-    if (flat == 0 || once <= flat || twice <= once) {
-        fprintf(stderr, "stack: a sheet is not admitted, or takes no stack\n");
-        return 1;
-    }
-    const size_t first = once - flat, second = twice - once;
-    const size_t whole = flat + (first > second ? first : second) * MOST_LEVELS / LEVELS;
-    if (argc > 1)
-        printf("no level %zu, %d levels %zu, twice as many %zu, so %d levels %zu bytes\n", flat, LEVELS, once, twice,
-               MOST_LEVELS, whole);
-    if (whole <= MENGYUBAD_STACK_BYTES)
-        return 0;
-    fprintf(stderr, "stack: %d levels take %zu bytes, over %d\n", MOST_LEVELS, whole, MENGYUBAD_STACK_BYTES);
-    return 1;
+    const int told = argc > 1;
+    const int admitted = is_covered("admission", admission(told)), marked = is_covered("marking", marking(told));
+    return admitted && marked ? 0 : 1;
 }

@@ -1,5 +1,5 @@
-//! Admission, finding and withdrawal, day numbers and windows, written for speed. The answers and the buffers are those
-//! of the proved library.
+//! Admission, finding and withdrawal, normal terms, day numbers and windows, written for speed. The answers and the
+//! buffers are those of the proved library.
 
 mod contexts;
 pub mod dates;
@@ -10,6 +10,7 @@ mod instances;
 mod layout;
 mod lines;
 mod memo;
+mod normality;
 mod rows;
 mod subtyping;
 mod table;
@@ -20,11 +21,13 @@ use instances::Tables;
 use layout::Counts;
 use lines::Line;
 use mengyubad::Answer;
+use normality::Forms;
 
 /// Holds one sheet at a time; its memory is allocated once.
 pub struct Checker {
     tables: Tables,
     lines: Box<[Line; lines::ROOM]>,
+    forms: Forms,
 }
 
 fn refused(number: usize, place: usize) -> Answer {
@@ -43,6 +46,7 @@ impl Checker {
         Checker {
             tables: Tables::new(),
             lines: Box::new([Line::default(); lines::ROOM]),
+            forms: Forms::new(),
         }
     }
 

@@ -28,6 +28,14 @@ mod c {
             out_length: usize,
             values: *mut [usize; 3],
         ) -> usize;
+        pub fn mengyubad_normal(
+            sheet: *const u8,
+            sheet_length: usize,
+            term: usize,
+            work: *mut u32,
+            work_words: usize,
+            values: *mut [usize; 3],
+        ) -> usize;
         pub fn mengyubad_day_number(date: *const [u32; 3], values: *mut [usize; 3]) -> usize;
         pub fn mengyubad_window(
             first: *const [u32; 3],
@@ -91,6 +99,23 @@ pub fn withdraw(sheet: &[u8], line: usize, work: &mut [u32], out: &mut [u8]) -> 
             work.len(),
             out.as_mut_ptr(),
             out.len(),
+            &mut values,
+        )
+    };
+    Answer { number, values }
+}
+
+/// Whether a term is normal: 1 or 0.
+pub fn normal(sheet: &[u8], term: usize, work: &mut [u32]) -> Answer {
+    let mut values = [0; 3];
+    // SAFETY: as in `admit`.
+    let number = unsafe {
+        c::mengyubad_normal(
+            sheet.as_ptr(),
+            sheet.len(),
+            term,
+            work.as_mut_ptr(),
+            work.len(),
             &mut values,
         )
     };

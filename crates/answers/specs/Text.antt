@@ -13,6 +13,8 @@ use Rattle.sheets.specs.declared.finding.Found.{Found}
 use Rattle.sheets.specs.declared.finding.Found.the-variants.{Line, Refused as notFound}
 use Rattle.sheets.specs.declared.withdrawal.Withdrawal.{Withdrawal}
 use Rattle.sheets.specs.declared.withdrawal.Withdrawal.the-variants.{Written, Refused as notWritten}
+use Rattle.sheets.specs.declared.normality.Normality.{Normality}
+use Rattle.sheets.specs.declared.normality.Normality.the-variants.{Yes, No, Refused as noTerm}
 use Rattle.windows.specs.declared.dates.DayNumber.{DayNumber}
 use Rattle.windows.specs.declared.dates.DayNumber.the-variants.{Day, Refused as noDay}
 use Rattle.windows.specs.declared.access.Access.{Access}
@@ -65,6 +67,12 @@ foundText (notFound number place) = refusedText number place
 unfoldable pub withdrawalText : Withdrawal → List ℕ
 withdrawalText (Written new) = okText new
 withdrawalText (notWritten number place) = refusedText number place
+
+-- document 02, A2: "answers yes for a term exactly if it is normal"
+unfoldable pub normalityText : Normality → List ℕ
+normalityText Yes = 121 ∷ 101 ∷ 115 ∷ end
+normalityText No = 110 ∷ 111 ∷ end
+normalityText (noTerm number place) = refusedText number place
 
 -- document 02, A1: "answers open or closed"
 unfoldable pub accessText : Access → List ℕ

@@ -1,6 +1,7 @@
 // Answers as lines of text.
 use sheets::admission::Admission;
 use sheets::finding::Found;
+use sheets::normality::Normality;
 use sheets::withdrawal::Withdrawal;
 use windows::access::Access;
 use windows::dates::DayNumber;
@@ -8,7 +9,7 @@ ghost use Prim.Native.Nat.{_+_, _≤_};
 ghost use lib.ListN.{length};
 ghost use Rattle.io.specs.Counts.{Counts};
 ghost use Rattle.answers.specs.Text.{field, okText, refusedText, admissionText, foundText, withdrawalText};
-ghost use Rattle.answers.specs.Text.{accessText, dayText, Put, AtStart};
+ghost use Rattle.answers.specs.Text.{normalityText, accessText, dayText, Put, AtStart};
 
 // Puts bytes behind the first `at` bytes of `out`, and answers where they end.
 fn put(out: &mut [u8], at: usize, bytes: &[u8]) -> usize
@@ -95,6 +96,18 @@ pub fn put_withdrawal(answer: Withdrawal, out: &mut [u8; 80]) -> usize
     match answer {
         Withdrawal::Refused { number, place } => put_refusal(number, place, out),
         Withdrawal::Written { length } => put_value(length, out),
+    }
+}
+
+// Puts the line of a term's answer, and answers how many bytes it has.
+pub fn put_normality(answer: Normality, out: &mut [u8; 80]) -> usize
+    ensures { λ r. ⌜ Counts r (now (out .exit)) ⌝ }
+    ensures { λ r. ⌜ AtStart (normalityText answer) (now (out .entry)) (now (out .exit)) r ⌝ }
+{
+    match answer {
+        Normality::Refused { number, place } => put_refusal(number, place, out),
+        Normality::Yes => put(out, 0, b"yes\n"),
+        Normality::No => put(out, 0, b"no\n"),
     }
 }
 

@@ -6,10 +6,12 @@ use crate::lines::put_access;
 use crate::lines::put_admission;
 use crate::lines::put_day;
 use crate::lines::put_found;
+use crate::lines::put_normality;
 use crate::lines::put_withdrawal;
 use sheets::admission::admit;
 use sheets::finding::Wanted;
 use sheets::finding::find;
+use sheets::normality::mark_normal;
 use sheets::withdrawal::Withdrawal;
 use sheets::withdrawal::withdraw;
 use windows::access::Window;
@@ -19,7 +21,9 @@ ghost use Rattle.io.specs.Counts.{Counts};
 ghost use Rattle.sheets.specs.Admission.{admitOf};
 ghost use Rattle.sheets.specs.Finding.{findOf};
 ghost use Rattle.sheets.specs.Withdrawal.{withdrawOf, outAfter, Withdrawn};
-ghost use Rattle.answers.specs.Text.{admissionText, foundText, withdrawalText, windowText, dateText, AtStart};
+ghost use Rattle.sheets.specs.Normality.{normalityOf};
+ghost use Rattle.answers.specs.Text.{admissionText, foundText, withdrawalText, normalityText};
+ghost use Rattle.answers.specs.Text.{windowText, dateText, AtStart};
 ghost use Rattle.answers.specs.Dates.{dateIn};
 ghost use Rattle.answers.specs.Room.{Within};
 
@@ -65,6 +69,15 @@ pub fn withdrawal_reply(
     let answer = withdraw(sheet, number, &mut work, out);
     let count = put_withdrawal(answer, text);
     WithdrawalReply { answer, count }
+}
+
+// Says whether term `term` of a sheet is normal likewise.
+pub fn normality_reply(sheet: &[u8], term: usize, text: &mut [u8; 80]) -> usize
+    ensures count { λ r. ⌜ Counts r (now (text .exit)) ⌝ }
+    ensures text { λ r. ⌜ AtStart (normalityText (normalityOf (now (sheet .entry)) term 3072)) (now (text .entry)) (now (text .exit)) r ⌝ }
+{
+    let mut work = [0u32; 3072];
+    put_normality(mark_normal(sheet, term, &mut work), text)
 }
 
 // Asks a window with a date, three texts, likewise; nothing is put if one of them is no date in text.

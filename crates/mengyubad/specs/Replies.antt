@@ -11,6 +11,8 @@ use Rattle.sheets.specs.declared.finding.Found.the-variants.{Line, Refused as n
 use Rattle.sheets.specs.declared.finding.Wanted.{Wanted}
 use Rattle.sheets.specs.declared.withdrawal.Withdrawal.{Withdrawal}
 use Rattle.sheets.specs.declared.withdrawal.Withdrawal.the-variants.{Written, Refused as notWritten}
+use Rattle.sheets.specs.declared.normality.Normality.{Normality}
+use Rattle.sheets.specs.declared.normality.Normality.the-variants.{Yes, No, Refused as noTerm}
 use Rattle.windows.specs.declared.dates.Date.{Date}
 use Rattle.windows.specs.declared.dates.DayNumber.{DayNumber}
 use Rattle.windows.specs.declared.dates.DayNumber.the-variants.{Day, Refused as noDay}
@@ -37,6 +39,12 @@ foundReply (notFound number place) = oneValue number place
 unfoldable pub withdrawalReply : Withdrawal → Reply
 withdrawalReply (Written length) = oneValue 0 length
 withdrawalReply (notWritten number place) = oneValue number place
+
+-- 1 for yes, 0 for no
+unfoldable pub normalityReply : Normality → Reply
+normalityReply Yes = oneValue 0 1
+normalityReply No = oneValue 0 0
+normalityReply (noTerm number place) = oneValue number place
 
 -- the number of a day
 unfoldable pub dayReply : DayNumber → Reply

@@ -1,11 +1,13 @@
 // The library for programs in other languages. Every function answers a number, 0 or that of a refusal, and puts three
-// values: if the number is 0 the counts, the line, the length, the day number, or 1 for open and 0 for closed; else the
-// place. What is left over is 0.
+// values: if the number is 0 the counts, the line, the length, the day number, or 1 for normal or open and 0 for not;
+// else the place. What is left over is 0.
 use sheets::admission::Admission;
 use sheets::admission::admit;
 use sheets::finding::Found;
 use sheets::finding::Wanted;
 use sheets::finding::find;
+use sheets::normality::Normality;
+use sheets::normality::mark_normal;
 use sheets::withdrawal::Withdrawal;
 use sheets::withdrawal::withdraw;
 use windows::access::Access;
@@ -17,10 +19,11 @@ ghost use lib.ListN.{length};
 ghost use Rattle.sheets.specs.Admission.{admitOf, workAfter};
 ghost use Rattle.sheets.specs.Finding.{findOf};
 ghost use Rattle.sheets.specs.Withdrawal.{withdrawOf, outAfter, Withdrawn};
+ghost use Rattle.sheets.specs.Normality.{normalityOf};
 ghost use Rattle.windows.specs.Dates.{dayNumberOf};
 ghost use Rattle.windows.specs.Access.{windowOf, openOn};
 ghost use Rattle.mengyubad.specs.Replies.{oneValue, admissionReply, foundReply, withdrawalReply, wantedOf, Given};
-ghost use Rattle.mengyubad.specs.Replies.{dayReply, accessReply, dateFrom};
+ghost use Rattle.mengyubad.specs.Replies.{normalityReply, dayReply, accessReply, dateFrom};
 
 // A number and three values.
 struct Reply {
@@ -75,6 +78,16 @@ fn withdrawal_reply(answer: Withdrawal) -> Reply
     match answer {
         Withdrawal::Refused { number, place } => single(number, place),
         Withdrawal::Written { length } => single(0, length),
+    }
+}
+
+fn normality_reply(answer: Normality) -> Reply
+    ensures { λ r. ⌜ r ≡ normalityReply answer ⌝ }
+{
+    match answer {
+        Normality::Refused { number, place } => single(number, place),
+        Normality::Yes => single(0, 1),
+        Normality::No => single(0, 0),
     }
 }
 
@@ -171,6 +184,20 @@ pub extern "C" fn mengyubad_withdraw(
     ensures kept { λ _. ⌜ Withdrawn (now (sheet .entry)) line (now (out .exit)) (withdrawOf (now (sheet .entry)) line (length (now (work .entry))) (length (now (out .entry)))) ⌝ }
 {
     give(withdrawal_reply(withdraw(sheet, line, work, out)), values)
+}
+
+// Whether a term of a sheet is normal: 1 or 0.
+#[no_mangle]
+pub extern "C" fn mengyubad_normal(
+    sheet: &[u8],
+    term: usize,
+    work: &mut [u32],
+    values: &mut [usize; 3],
+) -> usize
+    ensures answer { λ r. ⌜ Given (normalityReply (normalityOf (now (sheet .entry)) term (length (now (work .entry))))) r (now (values .exit)) ⌝ }
+    ensures left { λ _. ⌜ now (work .exit) ≡ workAfter (now (sheet .entry)) (now (work .entry)) ⌝ }
+{
+    give(normality_reply(mark_normal(sheet, term, work)), values)
 }
 
 // How many days after 1 January 1970 a date is.

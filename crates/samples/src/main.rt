@@ -13,6 +13,7 @@ use answers::parts::behind;
 use answers::parts::place_of;
 use answers::replies::admission_reply;
 use answers::replies::day_reply;
+use answers::replies::normality_reply;
 use answers::replies::search_reply;
 use answers::replies::window_reply;
 use answers::replies::withdrawal_reply;
@@ -26,6 +27,7 @@ enum Task {
     Withdraw,
     Window,
     Day,
+    Normal,
 }
 
 // Admits a sheet.
@@ -78,6 +80,17 @@ fn withdraw_number(sheet: &[u8], line: &[u8]) {
     withdraw_line(sheet, number, &mut out[..room]);
 }
 
+// Says whether the term whose number a line of the list has is normal.
+fn mark_number(sheet: &[u8], line: &[u8]) {
+    let Reading::Number(term) = number_in(line, 1) else {
+        io::write_all(STDOUT_FILENO, b"unreadable\n");
+        return;
+    };
+    let mut text = [0u8; 80];
+    let count = normality_reply(sheet, term, &mut text);
+    io::write_all(STDOUT_FILENO, &text[..count]);
+}
+
 // Asks a window with the three dates of a line of the list.
 fn ask_window(line: &[u8]) {
     let first_end = place_of(line, 0, b' ');
@@ -121,6 +134,7 @@ fn run_sheet(line: &[u8], task: Task) {
     match task {
         Task::Find => find_numbers(&sheet[..length], line),
         Task::Withdraw => withdraw_number(&sheet[..length], line),
+        Task::Normal => mark_number(&sheet[..length], line),
         _ => admit_whole(&sheet[..length]),
     }
 }
@@ -154,7 +168,8 @@ fn run_list(path: &[u8], task: Task) {
         io::write_all(STDOUT_FILENO, b" not opened\n");
         return;
     }
-    let mut list = io::large_buffer();
+    // longer than any of the lists: one that was cut would lack answers
+    let mut list = [0u8; 131072];
     let length = io::read_full(fd, &mut list);
     libc::close(fd);
     run_lines(&list[..length], task);
@@ -166,4 +181,5 @@ fn main() {
     run_list(b"withdraw.list", Task::Withdraw);
     run_list(b"window.list", Task::Window);
     run_list(b"days.list", Task::Day);
+    run_list(b"normal.list", Task::Normal);
 }

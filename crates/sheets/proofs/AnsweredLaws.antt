@@ -60,20 +60,20 @@ module _ (bytes : List ℕ) (work n room : ℕ) where
   pub withdrawal-is : (a : Withdrawal) → (withdrawOf bytes n work room ≡ a) ↔ WithdrawnMeans bytes work n room a
   withdrawal-is a = (λ e. subst (WithdrawnMeans bytes work n room) e (on-withdrawal (admitOf bytes work) refl), withdrawal-back)
 
--- The work buffer: after a refusal it holds what the number says, all sizes from 8 to 14; after any other answer, all
+-- The work buffer: after a refusal it holds what the number says, all sizes from 8 on; after any other answer, all
 -- sizes. Once the sheet is accepted it makes no difference what is answered.
 module _ (bytes before : List ℕ) where
-  abbrev RefusalLeaves : ℕ → ℕ → Type 0
+  abbrev pub RefusalLeaves : ℕ → ℕ → Type 0
   RefusalLeaves number place = WorkLeft bytes before (workAfter bytes before) number place
 
-  abbrev AllSizes : Type 0
+  abbrev pub AllSizes : Type 0
   AllSizes = SizesLeft bytes (trailerOf bytes .terms) before (workAfter bytes before)
 
   module _ {T C L : ℕ} (g : Good bytes T C L) (room : T ≤ length before) where
-    all-sizes : AllSizes
+    pub all-sizes : AllSizes
     all-sizes = left-counted bytes before (g .tables .laid) room (g .tables .terms)
 
-    later : (number place : ℕ) → 8 ≤ number → RefusalLeaves number place
+    pub later : (number place : ℕ) → 8 ≤ number → RefusalLeaves number place
     later = left-wholly bytes before (g .tables .laid) room (g .tables .terms)
 
   pub find-left : (w : Wanted) (number place : ℕ) → findOf bytes (length before) w ≡ notFound number place

@@ -15,3 +15,4 @@ pub mod WithdrawalLaws
 pub mod WithdrawalAnswers
 pub mod AnsweredLaws
 pub mod OutputLaws
+pub mod NormalityLaws

@@ -7,4 +7,5 @@ pub mod Accepted
 pub mod Withdrawal
 pub mod Output
 pub mod Answered
+pub mod Normality
 pub mod Cases

@@ -24,7 +24,7 @@ same-code k t u l v w p q r s e =
     let high = digits k l t v p r (low .0) in
     (high .0, high .1, low .1)
 
-all-zero : (n i : ℕ) → getD (replicate {A = ℕ} n 0) i 0 ≡ 0
+pub all-zero : (n i : ℕ) → getD (replicate {A = ℕ} n 0) i 0 ≡ 0
 all-zero zero i = refl
 all-zero (suc n) zero = refl
 all-zero (suc n) (suc i) = all-zero n i

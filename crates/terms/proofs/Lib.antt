@@ -8,9 +8,12 @@ pub mod CheckLaws
 pub mod TermLaws
 pub mod NodeLaws
 pub mod TableLaws
+pub mod VisitLaws
 pub mod WalkLaws
 pub mod HeldLaws
 pub mod ImageLaws
+pub mod NormalLaws
+pub mod RecognitionLaws
 pub mod SubstitutionLaws
 pub mod FreeIndexLaws
 pub mod IndexLaws

@@ -31,6 +31,10 @@ pub each : (P : ℕ → Type 0) (n : ℕ) → Each P n → (j : ℕ) → 1 ≤ j
 each P zero p j low high = absurd (omega arith)
 each P (suc n) p j low high = ⊎-elim (λ e. subst P (sym e) (p .1)) (λ h. each P n (p .0) j low (omega arith)) (eq-or-lt-of-le high)
 
+-- a proof for each number of a tag, 0 among them, which is none
+pub each-tag : (P : ℕ → Type 0) → P 0 → Each P 13 → (n : ℕ) → n ≤ 13 → P n
+each-tag P z p n h = ⊎-elim (λ e. subst P e z) (λ low. each P 13 p n low h) (eq-or-lt-of-le zero-le)
+
 -- a tag's number in the format
 unfoldable pub tagNumber : Tag → ℕ
 tagNumber none = 0
@@ -54,7 +58,7 @@ apart σ τ h e = eqb-false (tagNumber σ) (tagNumber τ) h (ap tagNumber e)
 -- tagOf numbers the tags as the format does
 pub tagNumber-tagOf : (n : ℕ) → n ≤ 13 → tagNumber (tagOf n) ≡ n
 unfolding tagNumber tagOf
-tagNumber-tagOf n h = ⊎-elim (λ e. subst (λ m. tagNumber (tagOf m) ≡ m) e refl) (λ low. each (λ j. tagNumber (tagOf j) ≡ j) 13 (((((((((((((tt, refl), refl), refl), refl), refl), refl), refl), refl), refl), refl), refl), refl), refl) n low h) (eq-or-lt-of-le zero-le)
+tagNumber-tagOf = each-tag (λ n. tagNumber (tagOf n) ≡ n) refl (((((((((((((tt, refl), refl), refl), refl), refl), refl), refl), refl), refl), refl), refl), refl), refl)
 
 -- two numbers of tags with one tag are equal
 pub tagOf-inj : (m n : ℕ) → m ≤ 13 → n ≤ 13 → tagOf m ≡ tagOf n → m ≡ n

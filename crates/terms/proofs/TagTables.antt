@@ -1,16 +1,15 @@
 -- The constant tables of tags agree with the definitions, and the facts on limits and places that every tag has.
 -- Assumes nothing.
-use mathlib.Core.Path.{_≡_, refl, sym, _∙_, ap, subst}
-use mathlib.Core.Logic.{_≢_, ⊎-elim}
+use mathlib.Core.Path.{_≡_, refl, sym, _∙_, ap}
+use mathlib.Core.Logic.{_≢_}
 use mathlib.Core.List.{List, [], _∷_}
-use Prim.Native.Nat.{ℕ, _≤_, _<_, zero-le}
-use native.Mathlib.Nat.{eq-or-lt-of-le}
+use Prim.Native.Nat.{ℕ, _≤_, _<_}
 use native.Mathlib.Omega.{arith}
 use lib.ListN.{getD}
 use Rattle.terms.specs.Tag.{Tag, none, Var, Univ, Pi, Lam, App, Sigma, Pair, First, Second, Nat, Zero, Succ, Ind, tagOf, arity, used, bindersOf, binders}
 use Rattle.terms.specs.Table.{limit, usedLimit}
 use Rattle.terms.proofs.Tables.{tabulate, tabulated, at-most}
-use Rattle.terms.proofs.Shape.{tagNumber, tagNumber-tagOf, each, AtChildren}
+use Rattle.terms.proofs.Shape.{tagNumber, tagNumber-tagOf, each, each-tag, AtChildren}
 
 unfoldable pub arities : List ℕ
 arities = 0 ∷ 0 ∷ 0 ∷ 2 ∷ 1 ∷ 2 ∷ 2 ∷ 2 ∷ 1 ∷ 1 ∷ 0 ∷ 0 ∷ 1 ∷ 4 ∷ []
@@ -45,11 +44,8 @@ binderRows =
 
 binder-row : (n : ℕ) → n ≤ 13 → getD binderRows n [] ≡ tabulate (binders (tagOf n)) 0 5
 unfolding binderRows tabulate binders tagOf
-binder-row n h =
-    ⊎-elim (λ e. subst P e refl) (λ low. each P 13 (((((((((((((tt, refl), refl), refl), refl), refl), refl), refl), refl), refl), refl), refl), refl), refl) n low h) (eq-or-lt-of-le zero-le)
-  where
-    P : ℕ → Type 0
-    P m = getD binderRows m [] ≡ tabulate (binders (tagOf m)) 0 5
+binder-row =
+    each-tag (λ n. getD binderRows n [] ≡ tabulate (binders (tagOf n)) 0 5) refl (((((((((((((tt, refl), refl), refl), refl), refl), refl), refl), refl), refl), refl), refl), refl), refl)
 
 pub binders-entry : (n j : ℕ) → n ≤ 13 → j < 5 → getD (getD binderRows n []) j 0 ≡ binders (tagOf n) j
 binders-entry n j h l = ap (λ row. getD row j 0) (binder-row n h) ∙ tabulated (binders (tagOf n)) 5 j l

@@ -19,6 +19,12 @@ says-no h = (λ e. absurd (false≢true e), λ p. absurd (h p))
 pub refuted : {P : Type 0} (r : Bool) → Decides r P → r ≡ false → P → ⊥
 refuted r d f p = false≢true (sym f ∙ d .1 p)
 
+-- two tests of one statement answer alike
+pub decides-same : {P : Type 0} (r s : Bool) → Decides r P → Decides s P → r ≡ s
+decides-same true s d e = sym (e .1 (d .0 refl))
+decides-same false true d e = d .1 (e .0 refl)
+decides-same false false d e = refl
+
 -- a test of an equivalent statement
 pub decides-via : {P Q : Type 0} (r : Bool) → P ↔ Q → Decides r P → Decides r Q
 decides-via r e d = (λ h. e .0 (d .0 h), λ q. d .1 (e .1 q))

@@ -4,10 +4,9 @@
 use mathlib.Core.Path.{_≡_, sym, _∙_, ap, subst}
 use mathlib.Core.Logic.{_≢_, _↔_}
 use mathlib.Core.Bool.{Bool, true, false, false≢true}
-use mathlib.Core.List.{List, _∷_}
+use mathlib.Core.List.{List, [], _∷_}
 use Prim.Native.Nat.{ℕ, _+_, _≤_, _<_}
 use native.Mathlib.Omega.{arith}
-use borrow.Author.Count.{below-more}
 use Rattle.terms.specs.Term.{Term}
 use Rattle.terms.specs.Substitution.{shift, substitute}
 use Rattle.terms.specs.Decides.{Decides}
@@ -16,10 +15,11 @@ use Rattle.terms.specs.Rows.{word, term}
 use Rattle.terms.specs.Table.{Given}
 use Rattle.terms.specs.Nodes.{SameHead}
 use Rattle.terms.proofs.Shape.{AtChildren, under-is, shape-cong, shape-view, child-shape, tagIn-shape, tagIn-known, number-any, shift-shape, substitute-shape, tagNumber}
-use Rattle.terms.proofs.Tests.{says-yes, says-no}
-use Rattle.terms.proofs.TagTables.{tag-is, arity-most}
+use Rattle.terms.proofs.Tests.{says-yes, says-no, given-of}
+use Rattle.terms.proofs.TagTables.{tag-is}
 use Rattle.terms.proofs.TermLaws.{row-described}
 use Rattle.terms.proofs.NodeLaws.{row-tag, child-is, child-before}
+use Rattle.terms.proofs.VisitLaws.{AllParts, Visit, visit-start, visit-place, visit-child, visit-end, tag-read, tag-high}
 
 -- F goes to the children, raised by the binders crossed
 pub record Under (F : ℕ → Term → Term) : Type 0 where
@@ -58,16 +58,16 @@ module _ (F : ℕ → Term → Term) (U : Under F) (k : ℕ) (t u : Term) (h : t
 
 -- on rows of a table
 module _ (bytes : List ℕ) (rest : List ℕ) (F : ℕ → Term → Term) (U : Under F) (k t u : ℕ) where
+  -- what is asked at place i of row t, whose tag is v: the child's image stands at place i of row u
+  abbrev ImageAt : ℕ → ℕ → Term → Type 0
+  ImageAt v i s = term bytes (word bytes u i) ≡ F (k + binders (tagOf v) i) s
+
   -- the walk has passed the places before j; v is the tag of row t and m its arity
   pub record Walk (v m j : ℕ) : Type 0 where
     pub given : Given bytes (t ∷ u ∷ rest)
-    pub isTag : v ≡ word bytes t 0
     pub notVar : v ≡ 1 → ⊥
     pub heads : SameHead (term bytes t) (term bytes u)
-    pub isArity : m ≡ arity (tagOf v)
-    pub from : 1 ≤ j
-    pub to : j ≤ m + 1
-    pub passed : (i : ℕ) → 1 ≤ i → i < j → term bytes (word bytes u i) ≡ F (k + binders (tagOf v) i) (term bytes (word bytes t i))
+    pub visit : Visit bytes t (ImageAt v) v m j
 
   no-variable : (v : ℕ) → Given bytes (t ∷ u ∷ rest) → v ≡ word bytes t 0 → (v ≡ 1 → ⊥) → tagIn (term bytes t) ≢ Var
   unfolding tagNumber
@@ -81,63 +81,55 @@ module _ (bytes : List ℕ) (rest : List ℕ) (F : ℕ → Term → Term) (U : U
 
   pub walk-start : (v m : ℕ) → Given bytes (t ∷ u ∷ rest) → v ≡ word bytes t 0 → (v ≡ 1 → ⊥) → (s : Bool) → Decides s (SameHead (term bytes t) (term bytes u)) → s ≡ true → m ≡ arity (tagOf v) → Walk v m 1
   walk-start v m g e h s d f a =
-      record { given = g; isTag = e; notVar = h; heads = d .0 f; isArity = a; from = omega arith; to = omega arith; passed = λ i low high. absurd (omega arith) }
+      let alone = given-of bytes (t ∷ u ∷ rest) (t ∷ []) (λ n b. (b .0, tt)) g in
+      record { given = g; notVar = h; heads = d .0 f; visit = visit-start bytes t (ImageAt v) v m alone e a }
 
   module _ (v m j : ℕ) (w : Walk v m j) where
+    no-variable-here : tagIn (term bytes t) ≢ Var
+    no-variable-here = no-variable v (w .given) (w .visit .isTag) (w .notVar)
+
     tagged : tagIn (term bytes t) ≡ tagOf v
-    tagged = row-tag bytes (w .given .count) (w .given .table) t (w .given .below .0) ∙ ap tagOf (sym (w .isTag))
+    tagged = sym (tag-read (w .visit .given) (w .visit .isTag))
 
     tagged-too : tagOf (word bytes u 0) ≡ tagOf v
     tagged-too = sym (row-tag bytes (w .given .count) (w .given .table) u (w .given .below .1 .0)) ∙ sym (w .heads .0) ∙ tagged
 
-    -- a place that the tag uses
-    module _ (i : ℕ) (low : 1 ≤ i) (high : i ≤ m) where
-      used-here : i ≤ arity (tagOf (word bytes t 0))
-      used-here = subst (λ a. i ≤ a) (w .isArity ∙ ap (λ n. arity (tagOf n)) (w .isTag)) high
+    -- the children of row u are the images exactly if every place has been passed
+    places : AtChildren (tagIn (term bytes t)) (λ i. child (term bytes u) i ≡ F (under (binders (tagIn (term bytes t)) i) k) (child (term bytes t) i))
+        ↔ AllParts bytes t (ImageAt v)
+    places = (
+      λ h i low high. there i low high ∙ h i low high ∙ (λ p. F (cut i p) (child (term bytes t) i)),
+      λ h i low high. sym (there i low high) ∙ h i low high ∙ (λ p. F (sym (cut i) p) (child (term bytes t) i)),
+    )
+      where
+        there : AtChildren (tagIn (term bytes t)) (λ i. term bytes (word bytes u i) ≡ child (term bytes u) i)
+        there i low high =
+            child-is bytes (w .given .count) (w .given .table) u (w .given .below .1 .0) i low (subst (λ τ. i ≤ arity τ) (tagged ∙ sym tagged-too) high)
 
-      used-there : i ≤ arity (tagOf (word bytes u 0))
-      used-there = subst (λ a. i ≤ a) (w .isArity ∙ ap arity (sym tagged-too)) high
-
-      pub child-below : (x y : ℕ) → x ≡ word bytes t i → y ≡ word bytes u i → (x < t) × (y < u)
-      child-below x y e f =
-          let b = child-before bytes (w .given .count) (w .given .table) t (w .given .below .0) i low used-here in
-          let c = child-before bytes (w .given .count) (w .given .table) u (w .given .below .1 .0) i low used-there in
-          (omega arith, omega arith)
-
-      -- the children as terms, and as rows
-      place : (child (term bytes u) i ≡ F (under (binders (tagOf v) i) k) (child (term bytes t) i)) ↔ (term bytes (word bytes u i) ≡ F (k + binders (tagOf v) i) (term bytes (word bytes t i)))
-      place =
-          let here = child-is bytes (w .given .count) (w .given .table) t (w .given .below .0) i low used-here in
-          let there = child-is bytes (w .given .count) (w .given .table) u (w .given .below .1 .0) i low used-there in
-          let cut = under-is (binders (tagOf v) i) k in
-          (λ e. there ∙ e ∙ (λ p. F (cut p) (sym here p)), λ e. sym there ∙ e ∙ (λ p. F (sym cut p) (here p)))
+        cut : (i : ℕ) → under (binders (tagIn (term bytes t)) i) k ≡ k + binders (tagOf v) i
+        cut i = under-is (binders (tagIn (term bytes t)) i) k ∙ ap (λ τ. k + binders τ i) tagged
 
     pub walk-tag : v ≤ 13
-    walk-tag = omega (arith, w .isTag, row-described bytes (w .given .count) (w .given .table) t (w .given .below .0) .high)
+    walk-tag = tag-high (w .visit .given) (w .visit .isTag)
 
     pub walk-place : j ≤ m → j < 5
-    walk-place h = omega (arith, arity-most (tagOf v), w .isArity)
+    walk-place = visit-place (w .visit)
+
+    pub child-below : (x y : ℕ) → j ≤ m → x ≡ word bytes t j → y ≡ word bytes u j → (x < t) × (y < u)
+    child-below x y h e f =
+        let used = subst (λ a. j ≤ a) (w .visit .isArity ∙ ap arity (sym tagged-too)) h in
+        let there = child-before bytes (w .given .count) (w .given .table) u (w .given .below .1 .0) j (w .visit .from) used in
+        (visit-child (w .visit) h e .below, omega arith)
 
     pub walk-given : (x y : ℕ) → j ≤ m → x ≡ word bytes t j → y ≡ word bytes u j → Given bytes (x ∷ y ∷ rest)
     walk-given x y h e f =
-        let b = child-below j (w .from) h x y e f in
+        let b = child-below x y h e f in
         record { count = w .given .count; few = w .given .few; table = w .given .table; below = (omega (arith, w .given .below .0), (omega (arith, w .given .below .1 .0), w .given .below .1 .1)) }
 
     pub walk-next : (b x y : ℕ) → j ≤ m → b ≡ binders (tagOf v) j → x ≡ word bytes t j → y ≡ word bytes u j → (r : Bool) → Decides r (term bytes y ≡ F (k + b) (term bytes x)) → r ≡ true → Walk v m (j + 1)
     walk-next b x y h e f g r d s =
-        record {
-          given = w .given;
-          isTag = w .isTag;
-          notVar = w .notVar;
-          heads = w .heads;
-          isArity = w .isArity;
-          from = omega arith;
-          to = omega arith;
-          passed = λ i low high. below-more (λ n. 1 ≤ n → term bytes (word bytes u n) ≡ F (k + binders (tagOf v) n) (term bytes (word bytes t n))) j (λ n l o. w .passed n o l) (λ _. agrees) i high low;
-        }
-      where
-        agrees : term bytes (word bytes u j) ≡ F (k + binders (tagOf v) j) (term bytes (word bytes t j))
-        agrees = ap (term bytes) (sym g) ∙ d .0 s ∙ (λ i. F (k + e i) (term bytes (f i)))
+        let agrees = ap (term bytes) (sym g) ∙ d .0 s ∙ (λ i. F (k + e i) (term bytes x)) in
+        record { given = w .given; notVar = w .notVar; heads = w .heads; visit = visit-child (w .visit) h f .next agrees }
 
     pub walk-stop : (b x y : ℕ) → j ≤ m → b ≡ binders (tagOf v) j → x ≡ word bytes t j → y ≡ word bytes u j → (r : Bool) → Decides r (term bytes y ≡ F (k + b) (term bytes x)) → r ≡ false
         → Decides false (term bytes u ≡ F k (term bytes t))
@@ -145,13 +137,10 @@ module _ (bytes : List ℕ) (rest : List ℕ) (F : ℕ → Term → Term) (U : U
       where
         then : term bytes u ≡ F k (term bytes t) → term bytes y ≡ F (k + b) (term bytes x)
         then i =
-            ap (term bytes) g ∙ place j (w .from) h .0 (subst (λ τ. child (term bytes u) j ≡ F (under (binders τ j) k) (child (term bytes t) j)) tagged (image-children F U k (term bytes t) (term bytes u) (no-variable v (w .given) (w .isTag) (w .notVar)) i j (w .from) (subst (λ τ. j ≤ arity τ) (sym tagged) (subst (λ a. j ≤ a) (w .isArity) h))))
-            ∙ (λ p. F (k + sym e p) (term bytes (sym f p)))
+            let all = places .0 (image-children F U k (term bytes t) (term bytes u) no-variable-here i) in
+            ap (term bytes) g ∙ visit-child (w .visit) h f .part all ∙ (λ p. F (k + sym e p) (term bytes x))
 
     pub walk-end : m < j → Decides true (term bytes u ≡ F k (term bytes t))
     walk-end h =
         says-yes
-        (image-made F U k (term bytes t) (term bytes u) (no-variable v (w .given) (w .isTag) (w .notVar)) (w .heads)
-        (λ i low high.
-        let l : i ≤ m = subst (λ a. i ≤ a) (sym (w .isArity)) (subst (λ τ. i ≤ arity τ) tagged high) in
-        subst (λ τ. child (term bytes u) i ≡ F (under (binders τ i) k) (child (term bytes t) i)) (sym tagged) (place i low l .1 (w .passed i low (omega arith)))))
+        (image-made F U k (term bytes t) (term bytes u) no-variable-here (w .heads) (places .1 (visit-end (w .visit) h)))

@@ -1,6 +1,8 @@
 pub mod Term
 pub mod Substitution
 pub mod FreeIndices
+pub mod Reduction
+pub mod NormalForms
 pub mod Tag
 pub mod Decides
 pub mod Words
@@ -11,3 +13,4 @@ pub mod RowIndex
 pub mod Nodes
 pub mod Held
 pub mod Images
+pub mod Recognition

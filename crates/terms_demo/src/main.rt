@@ -16,6 +16,7 @@ fn write_head_tests(rows: &[u8])
     tests::children(rows);
     tests::numbers(rows);
     tests::equal_terms(rows);
+    tests::normal_terms(rows);
 }
 
 fn write_shift_tests(rows: &[u8])

@@ -9,6 +9,7 @@ use terms::nodes::child;
 use terms::nodes::is_node;
 use terms::nodes::number;
 use terms::nodes::same_term;
+use terms::normal::is_normal;
 ghost use mathlib.Core.Path.{_≡_};
 ghost use mathlib.Core.List.{[], _∷_};
 ghost use Prim.Native.Nat.{_*_, _≤_};
@@ -118,6 +119,30 @@ pub fn equal_terms(rows: &[u8])
         same_term(rows, 29, 36),
     ];
     write_answers(b"same", &answers);
+}
+
+// Normal terms.
+pub fn normal_terms(rows: &[u8])
+    requires { ⌜ TermTable (now rows) 43 ⌝ }
+{
+    let answers = [
+        // a universe, a variable, zero, Pi(v0, v0), pair(zero, v0): yes
+        is_normal(rows, 1),
+        is_normal(rows, 2),
+        is_normal(rows, 7),
+        is_normal(rows, 12),
+        is_normal(rows, 22),
+        // second(pair(zero, v0)) steps: no
+        is_normal(rows, 23),
+        // first(v1), application(v1, v2), lambda over applications of v1: yes
+        is_normal(rows, 18),
+        is_normal(rows, 24),
+        is_normal(rows, 26),
+        // ind whose number is v1, and lambda over applications of it: yes
+        is_normal(rows, 29),
+        is_normal(rows, 32),
+    ];
+    write_answers(b"normal", &answers);
 }
 
 // Raised terms.

@@ -6,12 +6,13 @@ use crate::reference::layout::{Counts, LINE_ROW, MAX_TERMS, TRAILER};
 use crate::reference::reading::Reading;
 use crate::reference::Answer;
 
-/// The three calls on a sheet.
+/// The calls on a sheet.
 #[derive(Clone, Copy, Debug)]
 pub enum Call {
     Admit,
     Find([u32; 5]),
     Withdraw(usize),
+    Normal(usize),
 }
 
 /// The buffers that a call is given.
@@ -92,9 +93,10 @@ impl Comparer<'_> {
             } else {
                 self.random.below(terms)
             };
-            let call = match self.random.below(4) {
+            let call = match self.random.below(5) {
                 0 => Call::Find([0; 5]),
                 1 => Call::Withdraw(0),
+                2 => Call::Normal(self.number(terms)),
                 _ => Call::Admit,
             };
             self.compare_call(call, short, self.sheet.len());
@@ -103,17 +105,23 @@ impl Comparer<'_> {
 
     fn compare_on_refused(&mut self) {
         let length = self.work_length();
-        if self.random.one_in(2) {
-            self.compare_call(Call::Find([0, 0, 0, 0, 0]), length, 0);
-        } else {
-            let out = self.random.below(self.sheet.len() + 9);
-            self.compare_call(Call::Withdraw(0), length, out);
+        match self.random.below(3) {
+            0 => self.compare_call(Call::Find([0, 0, 0, 0, 0]), length, 0),
+            1 => {
+                let out = self.random.below(self.sheet.len() + 9);
+                self.compare_call(Call::Withdraw(0), length, out);
+            }
+            _ => {
+                let term = self.number(self.terms());
+                self.compare_call(Call::Normal(term), length, 0);
+            }
         }
     }
 
     fn compare_on_accepted(&mut self, counts: Counts) {
         self.compare_searches(counts);
         self.compare_withdrawals(counts);
+        self.compare_terms(counts);
     }
 
     fn compare_searches(&mut self, counts: Counts) {
@@ -126,10 +134,18 @@ impl Comparer<'_> {
 
     fn compare_withdrawals(&mut self, counts: Counts) {
         for _ in 0..3 {
-            let line = self.line(counts);
+            let line = self.number(counts.lines);
             let length = self.work_length();
             let out = self.out_length();
             self.compare_call(Call::Withdraw(line), length, out);
+        }
+    }
+
+    fn compare_terms(&mut self, counts: Counts) {
+        for _ in 0..3 {
+            let term = self.number(counts.terms);
+            let length = self.work_length();
+            self.compare_call(Call::Normal(term), length, 0);
         }
     }
 
@@ -168,18 +184,17 @@ impl Comparer<'_> {
         wanted
     }
 
-    /// A line's number: an existing one, most likely a late one, or none.
-    fn line(&mut self, counts: Counts) -> usize {
-        let lines = counts.lines;
+    /// The number of a line or a term, of which there are so many: an existing one, most likely a late one, or none.
+    fn number(&mut self, count: usize) -> usize {
         match self.random.below(11) {
-            0 => lines,
-            1 => lines + self.random.below(9),
+            0 => count,
+            1 => count + self.random.below(9),
             2 => self.random.word() as usize,
-            3 => self.random.below(lines) + 0x1_0000,
-            4 => (1 << 32) + self.random.below(lines),
-            5 | 6 => self.random.below(lines),
+            3 => self.random.below(count) + 0x1_0000,
+            4 => (1 << 32) + self.random.below(count),
+            5 | 6 => self.random.below(count),
             7 => 0,
-            _ => lines.saturating_sub(1 + self.random.below(6)),
+            _ => count.saturating_sub(1 + self.random.below(6)),
         }
     }
 
@@ -203,7 +218,7 @@ impl Comparer<'_> {
         let fill = self.random.word();
         let out: Vec<u8> = (0..out_length).map(|i| (fill >> (i % 57)) as u8).collect();
         let (wanted, difference) = on_both(self.reading, self.sheet, call, Buffers { work, out });
-        self.coverage.add_answer(wanted.answer.number);
+        self.coverage.add_answer(call, wanted.answer);
         self.differences.extend(difference);
         if matches!(call, Call::Withdraw(_)) && wanted.answer.number == 0 {
             self.withdrawn = Some(wanted.written().to_vec());
@@ -230,6 +245,7 @@ fn by_reference(reading: &Reading, sheet: &[u8], call: Call, mut buffers: Buffer
         Call::Admit => reading.admit(work),
         Call::Find(wanted) => reading.find(sheet, work, wanted),
         Call::Withdraw(line) => reading.withdraw(sheet, line, work, out),
+        Call::Normal(term) => reading.normal(term, work),
     };
     Outcome { answer, buffers }
 }
@@ -240,6 +256,7 @@ fn by_library(sheet: &[u8], call: Call, mut buffers: Buffers) -> Outcome {
         Call::Admit => mengyubad::admit(sheet, work),
         Call::Find(wanted) => mengyubad::find(sheet, work, wanted),
         Call::Withdraw(line) => mengyubad::withdraw(sheet, line, work, out),
+        Call::Normal(term) => mengyubad::normal(sheet, term, work),
     };
     Outcome {
         answer: answer.into(),

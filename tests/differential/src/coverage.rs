@@ -1,12 +1,17 @@
 //! What a run has seen.
 
+use crate::compare::Call;
 use crate::reference::layout::word;
 use crate::reference::reading::Reading;
+use crate::reference::Answer;
 use std::fmt;
 
 /// Runs of at least this many inputs have the greater goals.
 const FULL_RUN: u64 = 100_000;
 const FULL_GOAL: u64 = 1_000;
+
+/// The numbers that a call on a sheet may answer, 0 the successful ones; 15 and 16 are about dates.
+const NUMBERS: [usize; 16] = [0, 1, 2, 3, 4, 5, 6, 7, 8, 9, 10, 11, 12, 13, 14, 17];
 
 pub struct Coverage {
     pub inputs: u64,
@@ -15,8 +20,10 @@ pub struct Coverage {
     pub differences: u64,
     /// Lines that the generator made as instances and the reference refused.
     pub unfit: u64,
-    /// Answers by number over all calls, 0 the successful ones.
-    pub numbers: [u64; 15],
+    /// Answers by number over all calls.
+    pub numbers: [u64; 18],
+    /// Terms that are not normal, and terms that are.
+    pub terms: [u64; 2],
     pub accepted_lines: [u64; 44],
     pub refused_lines: [u64; 44],
 }
@@ -29,7 +36,8 @@ impl Default for Coverage {
             calls: 0,
             differences: 0,
             unfit: 0,
-            numbers: [0; 15],
+            numbers: [0; 18],
+            terms: [0; 2],
             accepted_lines: [0; 44],
             refused_lines: [0; 44],
         }
@@ -57,10 +65,11 @@ impl Coverage {
         }
     }
 
-    pub fn add_answer(&mut self, number: usize) {
+    pub fn add_answer(&mut self, call: Call, answer: Answer) {
         self.calls += 1;
-        if let Some(count) = self.numbers.get_mut(number) {
-            *count += 1;
+        self.numbers[answer.number] += 1;
+        if let (Call::Normal(_), 0) = (call, answer.number) {
+            self.terms[answer.values[0]] += 1;
         }
     }
 
@@ -89,7 +98,10 @@ impl Coverage {
         if full && self.accepted * 3 < self.inputs {
             missed.push("fewer than a third of the inputs are accepted".to_string());
         }
-        for number in (1..15).filter(|&number| self.numbers[number] == 0) {
+        if self.terms.iter().any(|&count| count < goal) {
+            missed.push(format!("fewer than {goal} terms are normal, or are not"));
+        }
+        for number in NUMBERS.iter().filter(|&&n| self.numbers[n] == 0) {
             missed.push(format!("number {number} was never answered"));
         }
         missed
@@ -100,10 +112,11 @@ impl Coverage {
 impl Coverage {
     fn write_numbers(&self, f: &mut fmt::Formatter) -> fmt::Result {
         writeln!(f, "number  answers")?;
-        for (number, count) in self.numbers.iter().enumerate() {
-            writeln!(f, "{number:>6} {count:>8}")?;
+        for number in NUMBERS {
+            writeln!(f, "{number:>6} {:>8}", self.numbers[number])?;
         }
-        Ok(())
+        let [no, yes] = self.terms;
+        writeln!(f, "terms normal {yes}, not normal {no}")
     }
 
     fn write_rules(&self, f: &mut fmt::Formatter) -> fmt::Result {

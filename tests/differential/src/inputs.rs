@@ -1,10 +1,11 @@
-//! The sheets that are compared: valid ones, valid ones at the limits, and changed ones.
+//! The sheets that are compared: valid ones, valid ones at the limits, term tables alone, and changed ones.
 
 use crate::generate::arrange::{after_empty, needed, reordered, repeated};
 use crate::generate::derivation::Line;
 use crate::generate::encode::{encode, Style};
 use crate::generate::grow::{grow, some_kind, successors, Kind};
 use crate::generate::maker::Maker;
+use crate::generate::tables::{some_shape, table};
 use crate::mutate::bytes::{change_bytes, change_line_at};
 use crate::mutate::lines::change_line;
 use crate::random::Random;
@@ -28,7 +29,8 @@ impl Inputs {
     pub fn next(&mut self, refused: &[u64; 44]) -> Vec<u8> {
         match self.random.below(1000) {
             0..=2 => self.at_limits(),
-            3..=339 => self.valid(),
+            3..=12 => self.terms_alone(),
+            13..=339 => self.valid(),
             340..=389 => {
                 let sheet = self.valid();
                 change_bytes(&sheet, &mut self.random)
@@ -83,6 +85,12 @@ impl Inputs {
         let lines = self.arranged(&maker);
         let style = self.style();
         encode(&mut maker.d.terms, &lines, style, &mut self.random)
+    }
+
+    fn terms_alone(&mut self) -> Vec<u8> {
+        let rows = self.random.pick(&[30, 150, MAX_TERMS]).unwrap_or(1);
+        let shape = some_shape(rows, &mut self.random);
+        table(shape, &mut self.random)
     }
 
     /// Counts exactly at their limits, or one of them one over.

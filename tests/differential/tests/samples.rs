@@ -1,4 +1,4 @@
-//! The samples that the repository keeps, sheets and dates, through the reference and the proved library.
+//! The samples that the repository keeps, sheets, terms and dates, through the reference and the proved library.
 
 use differential::compare::{on_both, Buffers, Call, Outcome};
 use differential::dates;
@@ -23,9 +23,14 @@ fn printed(answer: Answer, values: usize) -> String {
 }
 
 fn rows(list: &str) -> Vec<Vec<String>> {
-    let text = fs::read_to_string(folder().join("data").join(list)).expect("a readable list");
-    let fields = |line: &str| line.split(' ').map(String::from).collect();
-    text.lines().map(fields).collect()
+    fields(&folder().join("data").join(list))
+}
+
+/// The words of each line of a list.
+fn fields(list: &Path) -> Vec<Vec<String>> {
+    let text = fs::read_to_string(list).expect("a readable list");
+    let words = |line: &str| line.split(' ').map(String::from).collect();
+    text.lines().map(words).collect()
 }
 
 fn sheet(name: &str) -> Vec<u8> {
@@ -34,7 +39,10 @@ fn sheet(name: &str) -> Vec<u8> {
 
 /// All sample sheets, with their paths.
 fn sheets() -> Vec<(PathBuf, Vec<u8>)> {
-    let entries = fs::read_dir(folder().join("data")).expect("the folder of samples");
+    let folders = ["data", "data/normal"].map(|name| folder().join(name));
+    let entries = folders
+        .iter()
+        .flat_map(|folder| fs::read_dir(folder).expect("a folder of samples"));
     let paths = entries.map(|entry| entry.expect("an entry").path());
     let read = |path: PathBuf| {
         let sheet = fs::read(&path).expect("a readable sheet");
@@ -120,6 +128,23 @@ fn days(calendar: &Calendar, text: &mut Vec<String>) {
     }
 }
 
+/// An answer on a term as the program prints it.
+fn marked(answer: Answer) -> String {
+    match answer.number {
+        0 => ["no", "yes"][answer.values[0]].to_string(),
+        _ => printed(answer, 1),
+    }
+}
+
+/// A row is a sheet and a term.
+fn normal_terms(text: &mut Vec<String>) {
+    for row in rows("normal.list") {
+        let term = row[1].parse().expect("a number");
+        let answer = full(&sheet(&row[0]), Call::Normal(term), 0).answer;
+        text.push(format!("{} {}", row.join(" "), marked(answer)));
+    }
+}
+
 #[test]
 fn answers_are_those_of_the_samples() {
     let wanted = fs::read_to_string(folder().join("stdout")).expect("the list of answers");
@@ -130,6 +155,7 @@ fn answers_are_those_of_the_samples() {
     let calendar = Calendar::walked();
     windows(&calendar, &mut text);
     days(&calendar, &mut text);
+    normal_terms(&mut text);
     let wanted: Vec<&str> = wanted.lines().collect();
     assert_eq!(text.len(), wanted.len());
     for (got, wanted) in text.iter().zip(wanted) {
@@ -176,6 +202,12 @@ impl Sample<'_> {
         for line in 0..=lines {
             self.compare_line(line, terms);
         }
+        // Some hundred terms of a large table, the last among them, and none.
+        let asked = (0..terms).rev().step_by(1 + terms / 300);
+        for term in asked.chain([terms]) {
+            self.compare(Call::Normal(term), terms, 0);
+        }
+        self.compare(Call::Normal(0), terms.saturating_sub(1), 0);
     }
 }
 
@@ -192,4 +224,38 @@ fn the_library_answers_as_the_reference_on_every_sample() {
         };
         sample.compare_all();
     }
+}
+
+/// The rows of a list and the words of its buffers, one behind the other.
+fn work_samples() -> (Vec<Vec<String>>, Vec<u32>) {
+    let folder = PathBuf::from(env!("CARGO_MANIFEST_DIR")).join("tests/data");
+    let bytes = fs::read(folder.join("normal_work.words")).expect("readable buffers");
+    let word = |bytes: &[u8]| u32::from_le_bytes(bytes.try_into().expect("four bytes"));
+    (
+        fields(&folder.join("normal_work.list")),
+        bytes.chunks(4).map(word).collect(),
+    )
+}
+
+/// A row is a sheet, a term, the words of the work buffer and the answer. Word i of the buffer is 0x5A000000 + i before.
+#[test]
+fn work_buffers_are_those_of_the_samples() {
+    let (rows, words) = work_samples();
+    let mut left = &words[..];
+    for row in rows {
+        let [term, length] = [1, 2].map(|place: usize| row[place].parse().expect("a number"));
+        let sheet = sheet(&row[0]);
+        let buffers = Buffers {
+            work: (0x5A00_0000..).take(length).collect(),
+            out: Vec::new(),
+        };
+        let call = Call::Normal(term);
+        let (outcome, difference) = on_both(&Reading::of(&sheet), &sheet, call, buffers);
+        assert_eq!(difference, None, "{row:?}");
+        assert_eq!(marked(outcome.answer), row[3..].join(" "), "{row:?}");
+        let (wanted, behind) = left.split_at(length);
+        assert_eq!(outcome.buffers.work, wanted, "{row:?}");
+        left = behind;
+    }
+    assert!(left.is_empty());
 }

@@ -33,22 +33,37 @@ struct Encoder<'a> {
 
 /// The sheet that states the lines. The terms may grow by unused ones.
 pub fn encode(terms: &mut Terms, lines: &[Line], style: Style, random: &mut Random) -> Vec<u8> {
-    let mut encoder = Encoder {
-        terms,
-        random,
-        style,
-        rows: Vec::new(),
-        row_terms: Vec::new(),
-        sizes: Vec::new(),
-        numbers: Table::default(),
-        contexts: Vec::new(),
-        context_numbers: Table::default(),
-    };
-    encoder.context_numbers.insert(EMPTY, 0);
+    let mut encoder = Encoder::new(terms, style, random);
     encoder.emit_used(lines);
     encoder.pad_terms();
     encoder.pad_contexts();
     encoder.bytes(lines)
+}
+
+/// The sheet of all these terms under their own numbers, without contexts and lines.
+pub fn encode_terms(terms: &mut Terms, random: &mut Random) -> Vec<u8> {
+    let all = terms.count() as Term;
+    let mut encoder = Encoder::new(terms, Style::default(), random);
+    for term in 0..all {
+        encoder.emit(term);
+    }
+    encoder.bytes(&[])
+}
+
+impl<'a> Encoder<'a> {
+    fn new(terms: &'a mut Terms, style: Style, random: &'a mut Random) -> Encoder<'a> {
+        Encoder {
+            terms,
+            random,
+            style,
+            rows: Vec::new(),
+            row_terms: Vec::new(),
+            sizes: Vec::new(),
+            numbers: Table::default(),
+            contexts: Vec::new(),
+            context_numbers: Table::from_iter([(EMPTY, 0)]),
+        }
+    }
 }
 
 impl Encoder<'_> {

@@ -1,4 +1,4 @@
-//! Valid derivations at random, and their encoding as sheets.
+//! Valid derivations at random and their encoding as sheets; term tables of all kinds.
 
 pub mod arrange;
 pub mod conclusions;
@@ -14,5 +14,6 @@ pub mod maker;
 mod non_instances;
 mod steps;
 mod subtypes;
+pub mod tables;
 mod variants;
 mod weaken;

@@ -1,4 +1,5 @@
-//! The three calls: admission, finding, withdrawal, with what they leave in the buffers.
+//! The calls: admission, finding, withdrawal and the question whether a term is normal, with what they leave in the
+//! buffers.
 
 use super::layout::{set_word, word, Counts, LINE_ROW};
 use super::reading::Reading;
@@ -62,6 +63,17 @@ impl Reading {
         }
         out[..new.len()].copy_from_slice(&new);
         done(new.len())
+    }
+
+    /// 1 if the term is normal, 0 if it is not.
+    pub fn normal(&self, term: usize, work: &mut [u32]) -> Answer {
+        if let Err(answer) = self.accept(work) {
+            return answer;
+        }
+        match self.forms.get(term) {
+            Some(form) => done(usize::from(form.normal)),
+            None => refused(17, term),
+        }
     }
 }
 

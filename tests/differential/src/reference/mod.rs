@@ -1,5 +1,6 @@
 //! A second implementation of document 01, written from the papers: plain trees, real shift and substitution, and each
-//! rule by building what it concludes. Of document 02, A1: the calendar, walked day by day.
+//! rule by building what it concludes. Of document 02, A1: the calendar, walked day by day; A2: normal terms, by the
+//! clauses as printed.
 
 mod calls;
 mod contexts;
@@ -7,6 +8,7 @@ pub mod dates;
 mod equality;
 pub mod judgments;
 pub mod layout;
+pub mod normal;
 pub mod reading;
 pub mod rules;
 mod subtyping;

@@ -4,6 +4,7 @@ use super::judgments::Judgment;
 use super::layout::{
     word, Counts, EDITION, MARK, MAX_INDEX, MAX_LENGTH, MAX_LEVEL, MAX_SIZE, TRAILER,
 };
+use super::normal::{forms, Form};
 use super::rules::{conclusion_form, instance, premise_count};
 use super::terms::{Context, Node, Table, Term, Terms, EMPTY};
 use super::Refusal;
@@ -18,6 +19,8 @@ pub struct Reading {
     pub refusal: Option<Refusal>,
     /// The first line with its rule, if a line is refused.
     pub refused_rule: Option<u32>,
+    /// What the terms of an accepted sheet are; of no term if it is refused.
+    pub forms: Vec<Form>,
 }
 
 /// The tables built while reading.
@@ -41,6 +44,7 @@ impl Reading {
                 sizes: Vec::new(),
                 refusal: Some(refusal),
                 refused_rule: None,
+                forms: Vec::new(),
             },
             Ok(counts) => read_tables(sheet, counts),
         }
@@ -84,11 +88,16 @@ fn read_tables(sheet: &[u8], counts: Counts) -> Reading {
     let refused_rule = refusal
         .filter(|fault| fault.number >= 9)
         .map(|fault| u32::from(word(sheet, counts.line_at(fault.place) + 2)));
+    let forms = match refusal {
+        None => forms(&tables.terms, &tables.rows),
+        Some(_) => Vec::new(),
+    };
     Reading {
         counts: Some(counts),
         sizes: tables.sizes,
         refusal,
         refused_rule,
+        forms,
     }
 }
 

@@ -101,14 +101,14 @@ walk-shifted-requires : (t : ℕ) → here-lts.Need-walk-shifted-requires (calls
 walk-shifted-requires t c κs =
     let s = c .before .before .before .before .before .before .before .before .before .before .before .before in
     let w = c .before .before .before .before .before .loop .inv .0 in
-    let falls = child-below _ _ _ _ _ _ _ _ _ _ w _ (w .from) (c .before .before .before .before .loop-test .taken) _ _ (c .before .before .word3 .ensures .0) (c .before .word4 .ensures .0) in
+    let falls = child-below _ _ _ _ _ _ _ _ _ _ w _ _ (c .before .before .before .before .loop-test .taken) (c .before .before .word3 .ensures .0) (c .before .word4 .ensures .0) in
     (omega (arith, falls .0, s .pre .0), (walk-given _ _ _ _ _ _ _ _ _ _ w _ _ (c .before .before .before .before .loop-test .taken) (c .before .before .word3 .ensures .0) (c .before .word4 .ensures .0), omega (arith, falls .0, c .before .before .before .binders .ensures .1, s .pre .1 .1), s .pre .1 .2, c .before .before .before .before .before .loop .inv .1))
 
 add-j : (t : ℕ) → here-lts.Need-add-j (calls t) (here-at t) here.Post Inv-loop μ-loop
-add-j t c = omega (arith, c .before .before .before .before .before .before .before .loop .inv .0 .to, c .before .before .before .before .before .before .before .before .arity .ensures .1)
+add-j t c = omega (arith, c .before .before .before .before .before .before .before .loop .inv .0 .visit .to, c .before .before .before .before .before .before .before .before .arity .ensures .1)
 
 loop-less : (t : ℕ) → here-lts.Need-loop-less (calls t) (here-at t) here.Post Inv-loop μ-loop
-loop-less t c = omega (arith, c .before .before .before .before .before .before .before .loop .inv .0 .to)
+loop-less t c = omega (arith, c .before .before .before .before .before .before .before .loop .inv .0 .visit .to)
 
 loop-again : (t : ℕ) → here-lts.Need-loop-again (calls t) (here-at t) here.Post Inv-loop μ-loop
 loop-again t c = (walk-next _ _ _ _ _ _ _ _ _ _ (c .before .before .before .before .before .before .before .loop .inv .0) _ _ _ (c .before .before .before .before .before .before .loop-test .taken) (c .before .before .before .before .before .binders .ensures .0) (c .before .before .before .before .word3 .ensures .0) (c .before .before .before .word4 .ensures .0) _ (c .before .walk-shifted .ensures .0) (c .if3 .taken), c .before .walk-shifted .ensures .1)
