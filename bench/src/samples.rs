@@ -7,7 +7,7 @@ use crate::sheets;
 use crate::tuned::Checker;
 use mengyubad::Answer;
 use std::fs;
-use std::path::PathBuf;
+use std::path::{Path, PathBuf};
 
 fn folder() -> PathBuf {
     PathBuf::from(env!("CARGO_MANIFEST_DIR")).join("../crates/samples")
@@ -17,13 +17,16 @@ fn sample(name: &str) -> Vec<u8> {
     fs::read(folder().join("data").join(name)).expect("a sample sheet")
 }
 
-/// All sample sheets.
+fn entries(folder: &Path) -> impl Iterator<Item = PathBuf> {
+    let entries = fs::read_dir(folder).expect("a folder of samples");
+    entries.map(|entry| entry.expect("an entry").path())
+}
+
+/// All sample sheets, those in folders of their own among them.
 fn samples() -> Vec<Vec<u8>> {
-    let folders = ["data", "data/normal"].map(|name| folder().join(name));
-    let entries = folders
-        .iter()
-        .flat_map(|folder| fs::read_dir(folder).expect("a folder of samples"));
-    let paths = entries.map(|entry| entry.expect("an entry").path());
+    let data = folder().join("data");
+    let inner = entries(&data).filter(|path| path.is_dir());
+    let paths = entries(&data).chain(inner.flat_map(|path| entries(&path)));
     let sheets = paths.filter(|path| path.extension().is_some_and(|e| e == "sheet"));
     sheets
         .map(|path| fs::read(path).expect("a sheet"))

@@ -26,10 +26,12 @@ impl Tables {
         low.tag == UNIV && high.tag == UNIV && low.operands <= high.operands
     }
 
+    /// The second premise stands under either domain.
     fn l_pi(&self, c: &Line, p: &Line, q: &Line) -> bool {
+        let under = |domain| self.contexts.extends(q.context, c.context, domain);
         self.is_two(c.s1, PI, p.s2, q.s1)
             && self.is_two(c.s2, PI, p.s1, q.s2)
-            && self.contexts.extends(q.context, c.context, p.s2)
+            && (under(p.s2) || under(p.s1))
     }
 
     fn l_sig(&self, c: &Line, p: &Line, q: &Line) -> bool {

@@ -1,13 +1,13 @@
 -- The laws of rules 35 to 43, subtyping: see CandidateLaws.antt.
-use mathlib.Core.Path.{_≡_, refl, subst₂}
-use mathlib.Core.Logic.{_↔_}
+use mathlib.Core.Path.{_≡_, refl, sym, subst₂}
+use mathlib.Core.Logic.{_↔_, _⊎_, inl, inr, ⊎-elim}
 use mathlib.Core.List.{List, [], _∷_}
 use Rattle.terms.specs.Term.{Term, pi, sigma}
 use Rattle.terms.specs.Tag.{child, numberIn}
 use Rattle.terms.specs.Substitution.{_⟨_⟩}
 use Rattle.rules.specs.Judgment.{Context, Judgment, wf, equal, sub}
-use Rattle.rules.specs.Instance.{Instance, l-univ}
-use Rattle.rules.specs.Conditions.{IsUniverse, UniversesRise}
+use Rattle.rules.specs.Instance.{Instance, l-univ, l-pi, l-pi-smaller}
+use Rattle.rules.specs.Conditions.{IsUniverse, UniversesRise, FunctionsUnder}
 use Rattle.rules.specs.Decision.{nearest}
 use Rattle.rules.proofs.CandidateLaws.{by-candidate}
 
@@ -35,12 +35,35 @@ pub rule-37 : {G G₀ : Context} {c₁ c₂ : Term}
     ↔ ((G₀ ≡ G) × UniversesRise c₁ c₂)
 rule-37 {G} = (λ i. rising i refl refl, λ t. subst₂ (Instance 37) (cc) (cc) (l-univ G (t .1 .0) (t .1 .1) (t .1 .2)))
 
--- L-PI
+-- L-PI. It has two readings, so the instance itself is taken apart.
+readings : {ps : List Judgment} {c : Judgment} → Instance 38 ps c
+    → FunctionsUnder (λ A₀ A₁. A₀) ps c ⊎ FunctionsUnder (λ A₀ A₁. A₁) ps c
+readings (l-pi G A₀ A₁ B₀ B₁) = inl (G, A₀, A₁, B₀, B₁, refl, refl)
+readings (l-pi-smaller G A₀ A₁ B₀ B₁) = inr (G, A₀, A₁, B₀, B₁, refl, refl)
+
+module _ {ps : List Judgment} {c : Judgment} where
+  -- document 02, A3: "Everything admitted before is admitted still"
+  pub printed-reading : FunctionsUnder (λ A₀ A₁. A₀) ps c → Instance 38 ps c
+  printed-reading u = subst₂ (Instance 38) (sym (u .5)) (sym (u .6)) (l-pi (u .0) (u .1) (u .2) (u .3) (u .4))
+
+  smaller-reading : FunctionsUnder (λ A₀ A₁. A₁) ps c → Instance 38 ps c
+  smaller-reading u = subst₂ (Instance 38) (sym (u .5)) (sym (u .6)) (l-pi-smaller (u .0) (u .1) (u .2) (u .3) (u .4))
+
+  -- whatever the judgments are: an instance in one reading or the other, and none only if neither fits
+  pub either-domain : Instance 38 ps c ↔ (FunctionsUnder (λ A₀ A₁. A₀) ps c ⊎ FunctionsUnder (λ A₀ A₁. A₁) ps c)
+  either-domain = (readings, ⊎-elim printed-reading smaller-reading)
+
 pub rule-38 : {G G₀ G₁ : Context} {c₁ c₂ p₁ p₂ q₁ q₂ : Term}
     → Instance 38 (sub G₀ p₁ p₂ ∷ sub G₁ q₁ q₂ ∷ []) (sub G c₁ c₂)
-    ↔ ((G₀ ≡ G) × (G₁ ≡ p₂ ∷ G) × (c₁ ≡ pi p₂ q₁) × (c₂ ≡ pi p₁ q₂))
-unfolding nearest
-rule-38 = by-candidate (λ m. (cc, cc, cc, cc)) (λ t. (refl, cc, cc))
+    ↔ ((G₀ ≡ G) × ((G₁ ≡ p₂ ∷ G) ⊎ (G₁ ≡ p₁ ∷ G)) × (c₁ ≡ pi p₂ q₁) × (c₂ ≡ pi p₁ q₂))
+rule-38 {G} {p₁ = p₁} {p₂ = p₂} {q₁ = q₁} {q₂ = q₂} = (
+  λ i. ⊎-elim
+      (λ u. let f = u .5 in let g = u .6 in (cc, inl (cc), cc, cc))
+      (λ u. let f = u .5 in let g = u .6 in (cc, inr (cc), cc, cc))
+      (either-domain .0 i),
+  λ t. either-domain .1
+      (⊎-elim (λ e. inl (G, p₂, p₁, q₁, q₂, cc, cc)) (λ e. inr (G, p₂, p₁, q₁, q₂, cc, cc)) (t .1)),
+)
 
 -- L-SIG
 pub rule-39 : {G G₀ G₁ : Context} {c₁ c₂ p₁ p₂ q₁ q₂ : Term}

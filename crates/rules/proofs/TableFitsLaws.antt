@@ -47,6 +47,7 @@ use Rattle.rules.specs.Instance.{
   l-eq,
   l-univ,
   l-pi,
+  l-pi-smaller,
   l-sig,
   l-piproj1,
   l-piproj2,
@@ -130,6 +131,7 @@ row-fits (l-trans G A B C) = fit tt tt refl refl (refl, same, (refl, same, tt))
 row-fits (l-eq G A B i) = fit tt tt refl refl (refl, same, tt)
 row-fits (l-univ G i j l) = fit tt tt refl refl (refl, same, tt)
 row-fits (l-pi G A₀ A₁ B₀ B₁) = fit tt tt refl refl (refl, same, (refl, more (A₀ ∷ []), tt))
+row-fits (l-pi-smaller G A₀ A₁ B₀ B₁) = fit tt tt refl refl (refl, same, (refl, more (A₁ ∷ []), tt))
 row-fits (l-sig G A₀ A₁ B₀ B₁) = fit tt tt refl refl (refl, same, (refl, more (A₁ ∷ []), tt))
 row-fits (l-piproj1 G A₀ A₁ B₀ B₁) = fit tt tt refl refl (refl, same, tt)
 row-fits (l-piproj2 G A₀ A₁ B₀ B₁ a₀ a₁) = fit tt tt refl refl (refl, same, (refl, same, tt))

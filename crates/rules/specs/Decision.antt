@@ -1,16 +1,17 @@
 -- Whether a judgment is the conclusion of an instance of rule n with given premises, decided by computation: document 01, check 10.
--- The type of `instance?` says all. It reads the rule's letters off the judgments, makes the one instance of the rule that has these
--- letters, and compares that instance with the judgments.
+-- The type of `instance?` says all. It reads the rule's letters off the judgments, makes the one instance of the rule
+-- that has these letters, and compares that instance with the judgments. Which of rule 38's two readings is made is
+-- told by the second premise's context.
 use mathlib.Core.Path.{_≡_, refl, sym, ap, subst, subst₃}
 use mathlib.Core.List.{List, [], _∷_}
 use mathlib.Core.Option.{Option, none, some}
 use Prim.Native.Nat.{ℕ, zero, suc, _≤_}
 use native.Mathlib.Decide.{ℕ-discrete, decLe}
 use lib.ListN.{getD}
-use Rattle.terms.specs.Term.{Term, var, univ}
+use Rattle.terms.specs.Term.{Term, var, univ, pi}
 use Rattle.terms.specs.Substitution.{shift, _⟨_⟩, onSucc, onBoth}
 use Rattle.terms.specs.Tag.{numberIn, child}
-use Rattle.rules.specs.Judgment.{Context, Judgment, wf, typed, sub, contextOf, s1, s2, s3, list?, judgment?}
+use Rattle.rules.specs.Judgment.{Context, Judgment, wf, typed, sub, contextOf, s1, s2, s3, term?, list?, judgment?}
 use Rattle.rules.specs.Instance.{
   Entry,
   here,
@@ -54,6 +55,7 @@ use Rattle.rules.specs.Instance.{
   l-eq,
   l-univ,
   l-pi,
+  l-pi-smaller,
   l-sig,
   l-piproj1,
   l-piproj2,
@@ -107,10 +109,28 @@ unfolding levels
 levels-same G l (yes m) = (refl, refl, refl)
 levels-same G l (no q) = absurd (q l)
 
+-- rule 38's two readings: the printed one if the second premise, in H, stands under A₀, else the one under A₁
+domains : {H : Context} (G : Context) (A₀ A₁ B₀ B₁ : Term) → Dec (H ≡ A₀ ∷ G) → Candidate
+domains G A₀ A₁ B₀ B₁ (yes e) = found (l-pi G A₀ A₁ B₀ B₁)
+domains G A₀ A₁ B₀ B₁ (no q) = found (l-pi-smaller G A₀ A₁ B₀ B₁)
+
+printed-same : (G : Context) (A₀ A₁ B₀ B₁ : Term) (d : Dec (_≡_ {A = Context} (A₀ ∷ G) (A₀ ∷ G)))
+    → Matches 38 (sub G A₁ A₀ ∷ sub (A₀ ∷ G) B₀ B₁ ∷ []) (sub G (pi A₀ B₀) (pi A₁ B₁)) (domains G A₀ A₁ B₀ B₁ d)
+unfolding domains
+printed-same G A₀ A₁ B₀ B₁ (yes e) = (refl, refl, refl)
+printed-same G A₀ A₁ B₀ B₁ (no q) = absurd (q refl)
+
+-- where A₀ is A₁ the printed reading is found, with the same premises
+smaller-same : (G : Context) (A₀ A₁ B₀ B₁ : Term) (d : Dec (_≡_ {A = Context} (A₁ ∷ G) (A₀ ∷ G)))
+    → Matches 38 (sub G A₁ A₀ ∷ sub (A₁ ∷ G) B₀ B₁ ∷ []) (sub G (pi A₀ B₀) (pi A₁ B₁)) (domains G A₀ A₁ B₀ B₁ d)
+unfolding domains
+smaller-same G A₀ A₁ B₀ B₁ (yes e) = (refl, ap (λ H. sub G A₁ A₀ ∷ sub H B₀ B₁ ∷ []) (sym e), refl)
+smaller-same G A₀ A₁ B₀ B₁ (no q) = (refl, refl, refl)
+
 -- For each number from 0, which is no rule: the candidate, from the conclusion c and the premises p, q, r, s. Functions, so that only
 -- the one that is asked for is computed.
 candidates : List (Judgment → Judgment → Judgment → Judgment → Judgment → Candidate)
-unfolding variable entryAt levels decLe contextOf s1 s2 s3 numberIn child
+unfolding variable entryAt levels domains decLe contextOf s1 s2 s3 term? list? numberIn child
 candidates =
     (λ c p q r s. found wf-nil) ∷
     (λ c p q r s. found wf-nil) ∷
@@ -150,7 +170,7 @@ candidates =
     (λ c p q r s. found (l-trans (contextOf c) (s1 p) (s2 p) (s2 q))) ∷
     (λ c p q r s. found (l-eq (contextOf c) (s1 c) (s2 c) (numberIn (s3 p)))) ∷
     (λ c p q r s. levels (contextOf c) (decLe (numberIn (s1 c)) (numberIn (s2 c)))) ∷
-    (λ c p q r s. found (l-pi (contextOf c) (s2 p) (s1 p) (s1 q) (s2 q))) ∷
+    (λ c p q r s. domains (contextOf c) (s2 p) (s1 p) (s1 q) (s2 q) (list? term? (contextOf q) (s2 p ∷ contextOf c))) ∷
     (λ c p q r s. found (l-sig (contextOf c) (s1 p) (s2 p) (s1 q) (s2 q))) ∷
     (λ c p q r s. found (l-piproj1 (contextOf c) (s2 c) (s1 c) (child (s1 p) 2) (child (s2 p) 2))) ∷
     (λ c p q r s. found (l-piproj2 (contextOf c) (child (s1 p) 1) (s3 q) (child (s1 p) 2) (child (s2 p) 2) (s1 q) (s2 q))) ∷
@@ -165,7 +185,7 @@ nearest n ps c = getD candidates n (λ c p q r s. found wf-nil) c (getD ps 0 c) 
 
 -- an instance is its own candidate: its letters are read off right
 pub same : {n : ℕ} {ps : List Judgment} {c : Judgment} → Instance n ps c → Matches n ps c (nearest n ps c)
-unfolding nearest variable-same levels-same
+unfolding nearest variable-same levels-same printed-same smaller-same
 same wf-nil = (refl, refl, refl)
 same (wf-cons G A i) = (refl, refl, refl)
 same (wt-var G A x e) = variable-same e
@@ -203,7 +223,8 @@ same (e-indsuc G P a b c) = (refl, refl, refl)
 same (l-trans G A B C) = (refl, refl, refl)
 same (l-eq G A B i) = (refl, refl, refl)
 same (l-univ G i j l) = levels-same G l (decLe i j)
-same (l-pi G A₀ A₁ B₀ B₁) = (refl, refl, refl)
+same (l-pi G A₀ A₁ B₀ B₁) = printed-same G A₀ A₁ B₀ B₁ (list? term? (A₀ ∷ G) (A₀ ∷ G))
+same (l-pi-smaller G A₀ A₁ B₀ B₁) = smaller-same G A₀ A₁ B₀ B₁ (list? term? (A₁ ∷ G) (A₀ ∷ G))
 same (l-sig G A₀ A₁ B₀ B₁) = (refl, refl, refl)
 same (l-piproj1 G A₀ A₁ B₀ B₁) = (refl, refl, refl)
 same (l-piproj2 G A₀ A₁ B₀ B₁ a₀ a₁) = (refl, refl, refl)

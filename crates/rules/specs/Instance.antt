@@ -1,5 +1,6 @@
--- The 43 rules: sections 1 and 2 of source document 000 as document 01 amends them, one constructor each, named, numbered and ordered
--- as printed. `Instance n premises conclusion` is an instance of rule n; its premises stand left to right as printed.
+-- The 43 rules: sections 1 and 2 of source document 000 as document 01 amends them, a constructor each, named, numbered
+-- and ordered as printed; rule 38 has two, one a reading (document 02, A3).
+-- `Instance n premises conclusion` is an instance of rule n; its premises stand left to right as printed.
 -- A constructor takes the context, then the rule's letters, capitals first, each in the order of the alphabet; conditions come last.
 use mathlib.Core.List.{List, [], _∷_}
 use Prim.Native.Nat.{ℕ, zero, suc, _≤_}
@@ -111,6 +112,9 @@ pub data Instance : ℕ → List Judgment → Judgment → Type 0 where
   -- as printed: A₁ ≤ A₀, and the second premise under A₀
   l-pi : (G : Context) (A₀ A₁ B₀ B₁ : Term)
       → Instance 38 (sub G A₁ A₀ ∷ sub (A₀ ∷ G) B₀ B₁ ∷ []) (sub G (pi A₀ B₀) (pi A₁ B₁))
+  -- document 02, A3: or the second premise under A₁, the smaller domain
+  l-pi-smaller : (G : Context) (A₀ A₁ B₀ B₁ : Term)
+      → Instance 38 (sub G A₁ A₀ ∷ sub (A₁ ∷ G) B₀ B₁ ∷ []) (sub G (pi A₀ B₀) (pi A₁ B₁))
   l-sig : (G : Context) (A₀ A₁ B₀ B₁ : Term)
       → Instance 39 (sub G A₀ A₁ ∷ sub (A₁ ∷ G) B₀ B₁ ∷ []) (sub G (sigma A₀ B₀) (sigma A₁ B₁))
   l-piproj1 : (G : Context) (A₀ A₁ B₀ B₁ : Term)

@@ -41,7 +41,7 @@ pub fn l_univ(terms: &[u8], c: LineJudgment) -> bool
     universes_rise(terms, c.s1, c.s2)
 }
 
-// L-PI
+// L-PI, its second premise under either domain
 pub fn l_pi(
     terms: &[u8],
     contexts: &[u8],
@@ -52,7 +52,8 @@ pub fn l_pi(
     requires { ⌜ GivenRows (now terms) (now contexts) (c .context ∷ p .context ∷ q .context ∷ []) (c .s1 ∷ c .s2 ∷ p .s1 ∷ p .s2 ∷ q .s1 ∷ q .s2 ∷ []) ⌝ }
     ensures { λ ok. ⌜ Decides ok (Instance 38 (saidIn (now (terms .entry)) (now (contexts .entry)) 3 c p ∷ saidIn (now (terms .entry)) (now (contexts .entry)) 3 q q ∷ []) (saidIn (now (terms .entry)) (now (contexts .entry)) 3 c c)) ⌝ }
 {
-    extends(terms, contexts, q.context, c.context, p.s2)
+    (extends(terms, contexts, q.context, c.context, p.s2)
+        | extends(terms, contexts, q.context, c.context, p.s1))
         & is_node(terms, c.s1, Node::Pi(p.s2, q.s1))
         & is_node(terms, c.s2, Node::Pi(p.s1, q.s2))
 }

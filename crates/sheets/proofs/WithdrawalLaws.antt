@@ -15,7 +15,7 @@ use lib.Seq.{take-at}
 use borrow.Author.Tests.{lt-ltb}
 use Rattle.terms.specs.Decides.{Decides}
 use Rattle.terms.specs.Sizes.{over}
-use Rattle.terms.proofs.Tests.{refuted, decides-via, decides-both}
+use Rattle.terms.proofs.Tests.{refuted, decides-via, decides-both, decides-either}
 use Rattle.rules.specs.RuleTable.{premiseCount}
 use Rattle.sheets.specs.declared.lines.Line.{Line}
 use Rattle.sheets.specs.declared.admission.Admission.{Admission}
@@ -32,10 +32,6 @@ use Rattle.sheets.proofs.TestLaws.{either, says-lt, says-eq}
 use Rattle.sheets.proofs.AdmissionLaws.{accepted-is}
 use Rattle.sheets.proofs.AcceptedLaws.{good-accepted}
 use Rattle.sheets.proofs.SheetWithout.{at-least, new-long, good-without, stated-without}
-
-decides-either : {P Q : Type 0} (r s : Bool) → Decides r P → Decides s Q → Decides (r || s) (P ⊎ Q)
-decides-either true s d e = (λ h. inl (d .0 refl), λ h. refl)
-decides-either false s d e = (λ h. inr (e .0 h), ⊎-elim (λ p. absurd (refuted false d refl p)) (λ q. e .1 q))
 
 -- premise j is used and is n
 abbrev UsesAt : Line → ℕ → ℕ → Type 0

@@ -1,8 +1,8 @@
 -- Tests that answer for a statement: how they are joined and carried over.
 -- Assumes nothing.
 use mathlib.Core.Path.{_≡_, refl, sym, _∙_}
-use mathlib.Core.Logic.{_↔_}
-use mathlib.Core.Bool.{Bool, true, false, _&&_, false≢true}
+use mathlib.Core.Logic.{_↔_, _⊎_, inl, inr, ⊎-elim}
+use mathlib.Core.Bool.{Bool, true, false, _&&_, _||_, false≢true}
 use mathlib.Core.List.{List}
 use Prim.Native.Nat.{ℕ}
 use Rattle.terms.specs.Decides.{Decides}
@@ -31,6 +31,10 @@ decides-via r e d = (λ h. e .0 (d .0 h), λ q. d .1 (e .1 q))
 
 pub decides-both : {P Q : Type 0} (r s : Bool) → Decides r P → Decides s Q → Decides (r && s) (P × Q)
 decides-both r s d e = (λ h. (d .0 (and-left r s h), e .0 (and-right r s h)), λ p. rw (d .1 (p .0), e .1 (p .1)))
+
+pub decides-either : {P Q : Type 0} (r s : Bool) → Decides r P → Decides s Q → Decides (r || s) (P ⊎ Q)
+decides-either true s d e = (λ h. inl (d .0 refl), λ h. refl)
+decides-either false s d e = (λ h. inr (e .0 h), ⊎-elim (λ p. absurd (refuted false d refl p)) (λ q. e .1 q))
 
 -- the first test passed, so the second answers for both; or it failed, and so do both
 pub decides-then : {P Q : Type 0} (r s : Bool) → Decides r P → r ≡ true → Decides s Q → Decides s (P × Q)

@@ -1,7 +1,7 @@
 //! What a run has seen.
 
 use crate::compare::Call;
-use crate::reference::layout::word;
+use crate::reference::layout::{word, Counts};
 use crate::reference::reading::Reading;
 use crate::reference::Answer;
 use std::fmt;
@@ -26,6 +26,8 @@ pub struct Coverage {
     pub terms: [u64; 2],
     pub accepted_lines: [u64; 44],
     pub refused_lines: [u64; 44],
+    /// Accepted lines of rule 38 by what the second premise stands under: A0, A1, or A0 = A1.
+    pub domains: [u64; 3],
 }
 
 impl Default for Coverage {
@@ -40,6 +42,7 @@ impl Default for Coverage {
             terms: [0; 2],
             accepted_lines: [0; 44],
             refused_lines: [0; 44],
+            domains: [0; 3],
         }
     }
 }
@@ -62,6 +65,9 @@ impl Coverage {
         for line in 0..lines {
             let rule = word(sheet, counts.line_at(line) + 2);
             self.accepted_lines[usize::from(rule)] += 1;
+            if rule == 38 {
+                self.domains[domain(sheet, counts, line)] += 1;
+            }
         }
     }
 
@@ -98,6 +104,11 @@ impl Coverage {
         if full && self.accepted * 3 < self.inputs {
             missed.push("fewer than a third of the inputs are accepted".to_string());
         }
+        if self.domains.iter().any(|&count| count < goal) {
+            missed.push(format!(
+                "fewer than {goal} lines of rule 38 hold in some reading"
+            ));
+        }
         if self.terms.iter().any(|&count| count < goal) {
             missed.push(format!("fewer than {goal} terms are normal, or are not"));
         }
@@ -108,7 +119,20 @@ impl Coverage {
     }
 }
 
-/// The two tables.
+/// What the second premise of an accepted line of rule 38 stands under: 0 for A0, 1 for A1, 2 if they are equal.
+fn domain(sheet: &[u8], counts: Counts, line: usize) -> usize {
+    let cited = |place: usize| usize::from(word(sheet, counts.line_at(line) + 2 * place));
+    let [_, _, a1, a0, _] = counts.judgment(sheet, cited(6));
+    let [_, under, ..] = counts.judgment(sheet, cited(7));
+    let entry = word(sheet, counts.context_at(under as usize) + 2);
+    match [a0, a1].map(|a| a == u32::from(entry)) {
+        [true, true] => 2,
+        [true, false] => 0,
+        _ => 1,
+    }
+}
+
+/// The two tables, and the readings of rule 38.
 impl Coverage {
     fn write_numbers(&self, f: &mut fmt::Formatter) -> fmt::Result {
         writeln!(f, "number  answers")?;
@@ -128,6 +152,12 @@ impl Coverage {
         let (yes, no) = (self.least_accepted(), self.least_refused());
         writeln!(f, " least {yes:>8} {no:>8}")
     }
+
+    fn write_domains(&self, f: &mut fmt::Formatter) -> fmt::Result {
+        let [a0, a1, both] = self.domains;
+        write!(f, "rule 38 under A0 alone {a0}, under A1 alone {a1}, ")?;
+        writeln!(f, "under A0 = A1 {both}")
+    }
 }
 
 impl fmt::Display for Coverage {
@@ -136,6 +166,7 @@ impl fmt::Display for Coverage {
         writeln!(f, "calls compared {}", self.calls)?;
         self.write_numbers(f)?;
         self.write_rules(f)?;
+        self.write_domains(f)?;
         writeln!(f, "differences {}", self.differences)
     }
 }

@@ -137,7 +137,7 @@ impl Inputs {
         encode(&mut maker.d.terms, &lines, style, &mut self.random)
     }
 
-    /// What a line that is no instance rests on, that line, and some others.
+    /// What a line that is most likely no instance rests on, that line, and some others.
     fn with_non_instance(&mut self, refused: &[u64; 44]) -> Vec<u8> {
         let mut maker = self.derivation();
         let target = self.target(&maker.d.lines, refused);

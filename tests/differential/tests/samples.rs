@@ -37,18 +37,21 @@ fn sheet(name: &str) -> Vec<u8> {
     fs::read(folder().join("data").join(name)).expect("a readable sheet")
 }
 
-/// All sample sheets, with their paths.
+fn entries(folder: &Path) -> impl Iterator<Item = PathBuf> {
+    let entries = fs::read_dir(folder).expect("a folder of samples");
+    entries.map(|entry| entry.expect("an entry").path())
+}
+
+/// All sample sheets, those in folders of their own among them, with their paths.
 fn sheets() -> Vec<(PathBuf, Vec<u8>)> {
-    let folders = ["data", "data/normal"].map(|name| folder().join(name));
-    let entries = folders
-        .iter()
-        .flat_map(|folder| fs::read_dir(folder).expect("a folder of samples"));
-    let paths = entries.map(|entry| entry.expect("an entry").path());
+    let data = folder().join("data");
+    let inner = entries(&data).filter(|path| path.is_dir());
     let read = |path: PathBuf| {
         let sheet = fs::read(&path).expect("a readable sheet");
         (path, sheet)
     };
     let named = |path: &PathBuf| path.extension().is_some_and(|end| end == "sheet");
+    let paths = entries(&data).chain(inner.flat_map(|path| entries(&path)));
     paths.filter(named).map(read).collect()
 }
 

@@ -1,14 +1,15 @@
-//! Lines that fail a rule only by what ties its premises together: some premises stand in a longer context, or at an equal type.
+//! Lines that most likely fail a rule, and only by what ties its premises together: some premises stand in a longer
+//! context, or at an equal type, or the bodies of L-PI or L-SIG stand under other entries.
 
 use super::conclusions::conclude;
 use super::derivation::{stated, Line};
 use super::maker::Maker;
 use crate::reference::judgments::Judgment;
 use crate::reference::rules::instance;
-use crate::reference::terms::Context;
+use crate::reference::terms::{Context, Term};
 
 impl Maker {
-    /// A line of the rule that is no instance of it, over lines that are derived.
+    /// A line of the rule that is most likely no instance of it, over lines that are derived.
     pub fn non_instance(&mut self, rule: u32) -> Option<Line> {
         let of_rule: Vec<usize> = (0..self.d.lines.len())
             .filter(|&line| self.d.lines[line].rule == rule)
@@ -27,6 +28,29 @@ impl Maker {
 
     fn non_instance_of(&mut self, line: usize) -> Option<Line> {
         let old = self.d.lines[line].clone();
+        let premises = match old.rule {
+            38 | 39 if self.random.below(3) > 0 => self.with_misplaced_bodies(&old)?,
+            _ => self.with_changed_premises(&old)?,
+        };
+        let stated = stated(&self.d.lines, &premises);
+        let mut judgment = conclude(&mut self.d.terms, old.rule, &stated).unwrap_or(old.judgment);
+        if self.random.one_in(2) {
+            judgment = judgment.with(old.judgment.context(), &judgment.subjects());
+        }
+        // One in four is kept untested, as by `change_line`.
+        let untested = self.random.one_in(4) && premises != old.premises;
+        if !untested && instance(&mut self.d.terms, old.rule, &stated, judgment) {
+            return None;
+        }
+        Some(Line {
+            judgment,
+            rule: old.rule,
+            premises,
+        })
+    }
+
+    /// Some premises in a longer context, or at an equal type.
+    fn with_changed_premises(&mut self, old: &Line) -> Option<Vec<usize>> {
         let longer = self.random.one_in(2);
         let g = old.judgment.context();
         let h = if longer { self.longer(g)? } else { g };
@@ -40,19 +64,38 @@ impl Maker {
             };
             premises[place] = changed.unwrap_or(premises[place]);
         }
-        let stated = stated(&self.d.lines, &premises);
-        let mut judgment = conclude(&mut self.d.terms, old.rule, &stated).unwrap_or(old.judgment);
-        if longer && self.random.one_in(2) {
-            judgment = judgment.with(g, &judgment.subjects());
-        }
-        if instance(&mut self.d.terms, old.rule, &stated, judgment) {
-            return None;
-        }
-        Some(Line {
-            judgment,
-            rule: old.rule,
-            premises,
-        })
+        Some(premises)
+    }
+
+    /// The domains of L-PI or L-SIG, with bodies that stand under the lesser domain (L-SIG alone), under a third type,
+    /// under no entry or two, or under a domain added to any context.
+    fn with_misplaced_bodies(&mut self, old: &Line) -> Option<Vec<usize>> {
+        let domains = old.premises[0];
+        let (g, lesser, greater) = self.d.judgment(domains).subtype()?;
+        let h = match (self.random.below(5), old.rule) {
+            (0, 39) => self.under(g, lesser, 6)?,
+            (0 | 1, _) => {
+                let third = self.some_type(g, 1)?;
+                self.extend(third)?
+            }
+            (2, _) => self.under_two(g, &[lesser, greater])?,
+            (3, _) => g,
+            _ => {
+                let domain = self.random.pick(&[lesser, greater])?;
+                let other = self.some_context();
+                self.under(other, domain, 6)?
+            }
+        };
+        Some(vec![domains, self.some_subtype(h, 1)?])
+    }
+
+    /// The context with two more entries of these types.
+    fn under_two(&mut self, g: Context, types: &[Term]) -> Option<Context> {
+        let first = self.random.pick(types)?;
+        let second = self.random.pick(types)?;
+        let h = self.under(g, first, 6)?;
+        let second = self.d.terms.shift(second, 1);
+        self.under(h, second, 7)
     }
 
     /// The premises that are changed: one, those under more entries than the conclusion, or any.

@@ -29,11 +29,16 @@ impl Maker {
         }
     }
 
-    /// L-PI or L-SIG from a subtyping and one under the greater domain (for Pi and Sigma alike the second of the first premise).
+    /// L-PI or L-SIG from a subtyping and one under a domain that the rule takes.
     pub fn subtype_binders(&mut self, kind: Binder, g: Context, fuel: u32) -> Option<usize> {
         let domains = self.some_subtype(g, fuel)?;
-        let (_, _, greater) = self.d.judgment(domains).subtype()?;
-        let h = self.under(g, greater, fuel + 4)?;
+        let (_, lesser, greater) = self.d.judgment(domains).subtype()?;
+        // L-PI takes either domain; L-SIG takes the greater one.
+        let domain = match kind {
+            Binder::Pi if self.random.one_in(2) => lesser,
+            _ => greater,
+        };
+        let h = self.under(g, domain, fuel + 4)?;
         let bodies = if self.random.one_in(2) {
             let family = self.some_family(h, fuel)?;
             let equal = self.equal_to(family)?;

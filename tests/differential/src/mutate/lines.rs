@@ -8,7 +8,8 @@ use crate::random::Random;
 use crate::reference::rules::{conclusion_form, instance, premise_count};
 use crate::reference::terms::{Term, Terms};
 
-/// The lines with the given one changed so that it is most likely no instance of its rule.
+/// The lines with the given one changed so that it is most likely no instance of its rule. One change in four is kept
+/// untested: where the reference accepts too much, its test would leave out the lines that show it.
 pub fn change_line(
     terms: &mut Terms,
     lines: &[Line],
@@ -18,7 +19,8 @@ pub fn change_line(
     let mut changed = lines.to_vec();
     for _ in 0..6 {
         changed[number] = changed_once(terms, lines, number, random);
-        if !follows(terms, lines, &changed[number]) {
+        let untested = random.one_in(4) && changed[number] != lines[number];
+        if untested || !follows(terms, lines, &changed[number]) {
             break;
         }
     }

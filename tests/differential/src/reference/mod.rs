@@ -1,6 +1,6 @@
 //! A second implementation of document 01, written from the papers: plain trees, real shift and substitution, and each
 //! rule by building what it concludes. Of document 02, A1: the calendar, walked day by day; A2: normal terms, by the
-//! clauses as printed.
+//! clauses as printed; A3: rule 38 under either domain.
 
 mod calls;
 mod contexts;

@@ -37,12 +37,14 @@ fn l_univ(terms: &mut Terms, p: &[Judgment], c: Judgment) -> Option<bool> {
     Some(g == h && terms.universe(u)? <= terms.universe(v)?)
 }
 
+/// Printed with the second premise under A0; by document 02, A3, it stands under A0 or under A1.
 fn l_pi(terms: &mut Terms, p: &[Judgment], c: Judgment) -> Option<bool> {
     let (g, a1, a0) = p[0].subtype()?;
     let (h, b0, b1) = p[1].subtype()?;
     let left = terms.make(Node::Pi(a0, b0));
     let right = terms.make(Node::Pi(a1, b1));
-    Some(h == terms.extend(g, a0) && c == Subtype(g, left, right))
+    let under_domain = h == terms.extend(g, a0) || h == terms.extend(g, a1);
+    Some(under_domain && c == Subtype(g, left, right))
 }
 
 fn l_sig(terms: &mut Terms, p: &[Judgment], c: Judgment) -> Option<bool> {

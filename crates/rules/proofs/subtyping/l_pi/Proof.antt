@@ -1,13 +1,12 @@
 -- L-PI: the tests are joined, and together they are the law of rule 38.
 -- Assumes nothing.
 use mathlib.Core.Path.{_≡_, refl}
-use mathlib.Core.Logic.{_↔_}
+use mathlib.Core.Logic.{_↔_, _⊎_}
 use mathlib.Core.List.{[], _∷_}
-use mathlib.Core.Bool.{_&&_}
+use mathlib.Core.Bool.{Bool, _&&_, _||_}
 use native.Mathlib.Omega.{arith}
 use Rattle.terms.specs.Term.{Term, pi}
-use Rattle.terms.specs.Tag.{child}
-use Rattle.terms.proofs.Tests.{decides-via, decides-both, given-of}
+use Rattle.terms.proofs.Tests.{decides-via, decides-both, decides-either, given-of}
 use Rattle.rules.specs.Judgment.{Context, sub}
 use Rattle.rules.specs.Instance.{Instance}
 use Rattle.rules.specs.Stated.{judgmentOf}
@@ -17,22 +16,42 @@ use Rattle.rules.proofs.subtyping.l_pi.Statement.{statement}
 use Rattle.rules.proofs.subtyping.l_pi.Tie as tie
 
 -- the tests together are the rule
-agrees : {G G₁ : Context} {c₁ c₂ p₁ p₂ q₁ q₂ : Term} → (((G₁ ≡ p₂ ∷ G) × (c₁ ≡ pi p₂ q₁)) × (c₂ ≡ pi p₁ q₂)) ↔ Instance 38 (sub G p₁ p₂ ∷ sub G₁ q₁ q₂ ∷ []) (sub G c₁ c₂)
-unfolding child
-agrees = (λ h. rule-38 .1 (refl, cc, cc, cc), λ i. let t = rule-38 .0 i in ((cc, cc), cc))
+agrees : {G G₁ : Context} {c₁ c₂ p₁ p₂ q₁ q₂ : Term}
+    → ((((G₁ ≡ p₂ ∷ G) ⊎ (G₁ ≡ p₁ ∷ G)) × (c₁ ≡ pi p₂ q₁)) × (c₂ ≡ pi p₁ q₂))
+    ↔ Instance 38 (sub G p₁ p₂ ∷ sub G₁ q₁ q₂ ∷ []) (sub G c₁ c₂)
+agrees = (λ h. rule-38 .1 (refl, h .0 .0, h .0 .1, h .1), λ i. let t = rule-38 .0 i in ((t .1, t .2), t .3))
 
 extends-requires : tie.Need-extends-requires
-extends-requires c κs = rows-of _ _ (c .before .before .pre) _ _ (c .before .before .pre .given .within .1 .1 .0, (c .before .before .pre .given .within .0, tt)) (c .before .before .pre .below .1 .1 .1 .0, tt)
+extends-requires c κs =
+    let rows = c .before .before .pre in
+    rows-of _ _ rows _ _ (rows .given .within .1 .1 .0, (rows .given .within .0, tt)) (omega (arith, rows .below), tt)
+
+extends-requires-2 : tie.Need-extends-requires-2
+extends-requires-2 c κs =
+    let rows = c .before .before .before .pre in
+    rows-of _ _ rows _ _ (rows .given .within .1 .1 .0, (rows .given .within .0, tt)) (omega (arith, rows .below), tt)
 
 is-node-requires : tie.Need-is-node-requires
-is-node-requires c κs = given-of _ _ _ (λ n h. (h .0, (omega (arith, h), (h .1 .1 .1 .1 .0, tt)))) (rows-known _ _ (c .before .before .before .pre))
+is-node-requires c κs =
+    let rows = c .before .before .before .before .pre in
+    given-of _ _ _ (λ n h. (h .0, (omega (arith, h), (h .1 .1 .1 .1 .0, tt)))) (rows-known _ _ rows)
 
 is-node-requires-2 : tie.Need-is-node-requires-2
-is-node-requires-2 c κs = given-of _ _ _ (λ n h. (h .1 .0, (omega (arith, h), (h .1 .1 .1 .1 .1 .0, tt)))) (rows-known _ _ (c .before .before .before .before .pre))
+is-node-requires-2 c κs =
+    let rows = c .before .before .before .before .before .pre in
+    given-of _ _ _ (λ n h. (h .1 .0, (omega (arith, h), (h .1 .1 .1 .1 .1 .0, tt)))) (rows-known _ _ rows)
 
 returns : tie.Need-returns
 unfolding judgmentOf
-returns c = decides-via _ (agrees) (decides-both ((c .before .before .extends .result) && (c .before .is-node .result)) (c .is-node2 .result) (decides-both (c .before .before .extends .result) (c .before .is-node .result) (c .before .before .extends .ensures) (c .before .is-node .ensures)) (c .is-node2 .ensures))
+returns c =
+    let under : Bool = c .before .before .before .extends .result || c .before .before .extends2 .result in
+    let left : Bool = c .before .is-node .result in
+    decides-via _ agrees
+    (decides-both (under && left) (c .is-node2 .result)
+    (decides-both under left
+    (decides-either _ _ (c .before .before .before .extends .ensures) (c .before .before .extends2 .ensures))
+    (c .before .is-node .ensures))
+    (c .is-node2 .ensures))
 
 pub l-pi-spec : {M : Type 1} → statement M
-l-pi-spec = tie.close (tie.spec extends-requires is-node-requires is-node-requires-2 returns)
+l-pi-spec = tie.close (tie.spec extends-requires extends-requires-2 is-node-requires is-node-requires-2 returns)
