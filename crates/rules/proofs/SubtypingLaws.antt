@@ -7,7 +7,8 @@ use Rattle.terms.specs.Tag.{child, numberIn}
 use Rattle.terms.specs.Substitution.{_⟨_⟩}
 use Rattle.rules.specs.Judgment.{Context, Judgment, wf, equal, sub}
 use Rattle.rules.specs.Instance.{Instance, l-univ, l-pi, l-pi-smaller}
-use Rattle.rules.specs.Conditions.{IsUniverse, UniversesRise, FunctionsUnder}
+use Rattle.rules.specs.Conditions.{IsUniverse, UniversesRise}
+use Rattle.rules.specs.Readings.{PrintedReading, SmallerReading}
 use Rattle.rules.specs.Decision.{nearest}
 use Rattle.rules.proofs.CandidateLaws.{by-candidate}
 
@@ -36,22 +37,21 @@ pub rule-37 : {G G₀ : Context} {c₁ c₂ : Term}
 rule-37 {G} = (λ i. rising i refl refl, λ t. subst₂ (Instance 37) (cc) (cc) (l-univ G (t .1 .0) (t .1 .1) (t .1 .2)))
 
 -- L-PI. It has two readings, so the instance itself is taken apart.
-readings : {ps : List Judgment} {c : Judgment} → Instance 38 ps c
-    → FunctionsUnder (λ A₀ A₁. A₀) ps c ⊎ FunctionsUnder (λ A₀ A₁. A₁) ps c
+readings : {ps : List Judgment} {c : Judgment} → Instance 38 ps c → PrintedReading ps c ⊎ SmallerReading ps c
 readings (l-pi G A₀ A₁ B₀ B₁) = inl (G, A₀, A₁, B₀, B₁, refl, refl)
 readings (l-pi-smaller G A₀ A₁ B₀ B₁) = inr (G, A₀, A₁, B₀, B₁, refl, refl)
 
 module _ {ps : List Judgment} {c : Judgment} where
   -- document 02, A3: "Everything admitted before is admitted still"
-  pub printed-reading : FunctionsUnder (λ A₀ A₁. A₀) ps c → Instance 38 ps c
+  pub printed-reading : PrintedReading ps c → Instance 38 ps c
   printed-reading u = subst₂ (Instance 38) (sym (u .5)) (sym (u .6)) (l-pi (u .0) (u .1) (u .2) (u .3) (u .4))
 
-  smaller-reading : FunctionsUnder (λ A₀ A₁. A₁) ps c → Instance 38 ps c
+  smaller-reading : SmallerReading ps c → Instance 38 ps c
   smaller-reading u = subst₂ (Instance 38) (sym (u .5)) (sym (u .6)) (l-pi-smaller (u .0) (u .1) (u .2) (u .3) (u .4))
 
-  -- whatever the judgments are: an instance in one reading or the other, and none only if neither fits
-  pub either-domain : Instance 38 ps c ↔ (FunctionsUnder (λ A₀ A₁. A₀) ps c ⊎ FunctionsUnder (λ A₀ A₁. A₁) ps c)
-  either-domain = (readings, ⊎-elim printed-reading smaller-reading)
+  -- document 02, A3: number 10 "is given for rule 38 only if neither reading fits"
+  pub either-reading : Instance 38 ps c ↔ (PrintedReading ps c ⊎ SmallerReading ps c)
+  either-reading = (readings, ⊎-elim printed-reading smaller-reading)
 
 pub rule-38 : {G G₀ G₁ : Context} {c₁ c₂ p₁ p₂ q₁ q₂ : Term}
     → Instance 38 (sub G₀ p₁ p₂ ∷ sub G₁ q₁ q₂ ∷ []) (sub G c₁ c₂)
@@ -60,8 +60,8 @@ rule-38 {G} {p₁ = p₁} {p₂ = p₂} {q₁ = q₁} {q₂ = q₂} = (
   λ i. ⊎-elim
       (λ u. let f = u .5 in let g = u .6 in (cc, inl (cc), cc, cc))
       (λ u. let f = u .5 in let g = u .6 in (cc, inr (cc), cc, cc))
-      (either-domain .0 i),
-  λ t. either-domain .1
+      (either-reading .0 i),
+  λ t. either-reading .1
       (⊎-elim (λ e. inl (G, p₂, p₁, q₁, q₂, cc, cc)) (λ e. inr (G, p₂, p₁, q₁, q₂, cc, cc)) (t .1)),
 )
 

@@ -1,10 +1,9 @@
 -- What a rule asks of a judgment's parts beyond equations between them, as a check of it tests it: document 01, "Amended readings".
 use mathlib.Core.Path.{_≡_}
-use mathlib.Core.List.{List, [], _∷_}
 use Prim.Native.Nat.{ℕ, suc, _≤_}
-use Rattle.terms.specs.Term.{Term, var, univ, pi}
+use Rattle.terms.specs.Term.{Term, var, univ}
 use Rattle.terms.specs.Substitution.{shift}
-use Rattle.rules.specs.Judgment.{Context, Judgment, sub}
+use Rattle.rules.specs.Judgment.{Context}
 use Rattle.rules.specs.Instance.{Entry}
 
 -- "U_i": a universe at any level, and not something that is convertible to one
@@ -22,9 +21,3 @@ UniversesRise A B = (i : ℕ) × (j : ℕ) × (i ≤ j) × (A ≡ univ i) × (B 
 -- WT-VAR: x : A in G, where the type is the entry's type with every free index raised by the variable's index plus 1
 abbrev pub Declares : Context → Term → Term → Type 0
 Declares G a A = (x : ℕ) × (B : Term) × Entry G x B × (a ≡ var x) × (A ≡ shift 0 (suc x) B)
-
--- L-PI with its second premise under a domain that is chosen from A₀ and A₁: document 02, A3
-abbrev pub FunctionsUnder : (Term → Term → Term) → List Judgment → Judgment → Type 0
-FunctionsUnder domain ps c =
-    (G : Context) × (A₀ : Term) × (A₁ : Term) × (B₀ : Term) × (B₁ : Term)
-    × (ps ≡ sub G A₁ A₀ ∷ sub (domain A₀ A₁ ∷ G) B₀ B₁ ∷ []) × (c ≡ sub G (pi A₀ B₀) (pi A₁ B₁))
