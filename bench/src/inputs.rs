@@ -124,6 +124,7 @@ pub fn single() -> Vec<Input> {
     all.extend(typical.all_calls());
     all.extend(full.all_calls());
     all.push(admit("equal heads", sheets::equal_heads(3072, 256, 1024)));
+    all.push(admit("one bucket", sheets::one_bucket()));
     all.push(admit("deep context", sheets::deep_context(252)));
     all.push(admit("deep binders", sheets::deep_binders(100, 13)));
     let trees: [(&str, Build); 3] = [

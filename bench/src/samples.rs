@@ -145,7 +145,7 @@ fn terms_are_answered_as_listed() {
 }
 
 #[test]
-fn every_line_and_term_of_the_samples_is_answered_alike() {
+fn lines_and_terms_of_the_samples_are_answered_alike() {
     let mut checker = Checker::new();
     for sheet in samples() {
         lines_are_alike(&mut checker, &sheet);
@@ -159,7 +159,9 @@ fn lines_are_alike(checker: &mut Checker, sheet: &[u8]) {
     let mut alike = |call, words, room| alike(checker, sheet, call, words, room);
     alike(Call::Admit, terms, 0);
     alike(Call::Admit, terms.saturating_sub(1), 0);
-    for n in 0..lines + 2 {
+    // Some dozens of lines of a full sheet, which are all equal, the last among them, and two that are none.
+    let step = 1 + lines * terms / 100_000;
+    for n in (0..lines).rev().step_by(step).chain([lines, lines + 1]) {
         alike(Call::Find([1, 0, n as u32, 0, 1]), terms, 0);
         alike(Call::Withdraw(n), terms, length);
         alike(Call::Withdraw(n), terms + 1, length.saturating_sub(20));

@@ -33,3 +33,9 @@ pub fn sample() -> Vec<u8> {
     b.wt_abs(x);
     b.bytes()
 }
+
+/// The sample sheet whose term rows nearly all lie in one bucket of the library's index, so that each of these is
+/// compared with nearly all rows before it.
+pub fn one_bucket() -> Vec<u8> {
+    include_bytes!("../../../crates/samples/data/one_bucket.sheet").to_vec()
+}

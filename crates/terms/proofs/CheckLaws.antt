@@ -9,29 +9,39 @@ use native.Mathlib.Omega.{arith}
 use lib.ListN.{length, take, drop, set, length-set, take-append-drop}
 use lib.Seq.{take-suc-set, drop-set-lt, drop-drop, length-take-le}
 use borrow.Author.Tests.{lt-ltb, le-ltb}
+use Rattle.terms.specs.Decides.{Decides}
 use Rattle.terms.specs.Sizes.{rowOf, fitsRow, repeatedBelow, rowSize, sizeAnswer, rowAnswer, checkFrom, checkTerms, over}
+use Rattle.terms.specs.Repetition.{OlderRowHolds}
 use Rattle.terms.specs.declared.rows.Row.{Row}
 use Rattle.terms.specs.declared.sizes.RowAnswer.the-variants.{Fault, Size}
 use Rattle.terms.specs.declared.sizes.TermsAnswer.{TermsAnswer}
 use Rattle.terms.specs.declared.sizes.TermsAnswer.the-variants.{Sound, Faulty}
+use Rattle.terms.proofs.Tests.{decides-same}
+use Rattle.terms.proofs.RepetitionLaws.{repeated-any}
 
 -- `row_answer`: r is the row, f says whether it fits
+pub fits-known : (n : ℕ) (sizes : List ℕ) (r : Row) (f : Bool) → f ≡ fitsRow r n → f ≡ true → length sizes ≡ n → fitsRow r (length sizes) ≡ true
+fits-known n sizes r f g h l = subst (λ m. fitsRow r m ≡ true) (sym l) (sym g ∙ h)
+
 module _ (bytes : List ℕ) (n : ℕ) (sizes : List ℕ) (r : Row) (f : Bool) (e : r ≡ rowOf bytes n) (g : f ≡ fitsRow r n) where
-  pub fitting : f ≡ true → fitsRow (rowOf bytes n) n ≡ true
+  fitting : f ≡ true → fitsRow (rowOf bytes n) n ≡ true
   fitting h = subst (λ s. fitsRow s n ≡ true) e (sym g ∙ h)
 
   pub answer-5 : f ≡ false → Fault 5 ≡ rowAnswer bytes n sizes
   unfolding rowAnswer
   answer-5 h = rw (subst (λ s. fitsRow s n ≡ false) e (sym g ∙ h), rowAnswer)
 
-  module _ (h : f ≡ true) (q : Bool) (k : q ≡ repeatedBelow bytes r n) where
+  module _ (h : f ≡ true) (q : Bool) (d : Decides q (OlderRowHolds bytes r n)) where
+    told : q ≡ repeatedBelow bytes (rowOf bytes n) n
+    told = subst (λ s. q ≡ repeatedBelow bytes s n) e (decides-same q (repeatedBelow bytes r n) d (repeated-any bytes r n))
+
     pub answer-6 : q ≡ true → Fault 6 ≡ rowAnswer bytes n sizes
     unfolding rowAnswer
-    answer-6 l = rw (fitting h, subst (λ s. repeatedBelow bytes s n ≡ true) e (sym k ∙ l), rowAnswer)
+    answer-6 l = rw (fitting h, sym told ∙ l, rowAnswer)
 
     answer-sized : q ≡ false → sizeAnswer (rowSize bytes n sizes) ≡ rowAnswer bytes n sizes
     unfolding rowAnswer
-    answer-sized l = rw (fitting h, subst (λ s. repeatedBelow bytes s n ≡ false) e (sym k ∙ l), rowAnswer)
+    answer-sized l = rw (fitting h, sym told ∙ l, rowAnswer)
 
     module _ (l : q ≡ false) (size : ℕ) (m : size ≡ rowSize bytes n sizes) where
       pub answer-7 : 65535 < size → Fault 7 ≡ rowAnswer bytes n sizes

@@ -10,18 +10,22 @@ use native.Mathlib.Decide.{ℕ-discrete}
 use lib.ListN.{getD, set, replicate, length-set, length-replicate, getD-replicate}
 use lib.Seq.{getD-set-same, getD-set-other}
 use borrow.Author.Tests.{eq-eqb, ne-eqb}
+use Rattle.terms.specs.Decides.{Decides}
 use Rattle.terms.specs.Sizes.{rowOf, holdsRow, repeatedBelow}
+use Rattle.terms.specs.Repetition.{OlderRowHolds}
 use Rattle.terms.specs.RowIndex.{bucketOf, latest, Indexed}
 use Rattle.terms.specs.declared.rows.Row.{Row}
-use Rattle.terms.proofs.NodeLaws.{holds-words, rowWord}
-use Rattle.terms.proofs.RowLaws.{repeated-at}
+use Rattle.terms.proofs.Tests.{says-yes}
+use Rattle.terms.proofs.RepetitionLaws.{holds-row, repeated-any}
+
+-- there are 2,048 buckets
+pub bucket-below : (b : ℕ) (r : Row) → b ≡ bucketOf r → b < 2048
+unfolding bucketOf
+bucket-below b r e = omega arith
 
 -- five words that are held lie in the row's bucket
 same-bucket : (bytes : List ℕ) (i : ℕ) (r : Row) → holdsRow bytes i r ≡ true → bucketOf (rowOf bytes i) ≡ bucketOf r
-unfolding bucketOf rowOf rowWord
-same-bucket bytes i r h =
-    let w = holds-words bytes i r .0 h in
-    rw (w 0 (omega arith), w 1 (omega arith), w 2 (omega arith), w 3 (omega arith), w 4 (omega arith))
+same-bucket bytes i r h = ap bucketOf (holds-row bytes i r .0 h)
 
 module _ (bytes : List ℕ) where
   module _ (b : ℕ) where
@@ -92,8 +96,8 @@ module _ (bytes : List ℕ) where
       pub chained : latest bytes (bucketOf r) at ≡ at
       pub answer : repeatedBelow bytes r n ≡ repeatedBelow bytes r at
 
-    pub search-start : (n at b : ℕ) (heads links : List ℕ) → Indexed bytes n heads links → b ≡ bucketOf r → b < 2048 → at ≡ getD heads b 0 → Searching n at
-    search-start n at b heads links x e l h =
+    pub search-start : (n at b : ℕ) (heads links : List ℕ) → Indexed bytes n heads links → b ≡ bucketOf r → at ≡ getD heads b 0 → Searching n at
+    search-start n at b heads links x e h =
         record {
           within = omega (arith, low (bucketOf r) n, stands);
           chained = ap (latest bytes (bucketOf r)) stands ∙ again (bucketOf r) n ∙ sym stands;
@@ -101,15 +105,15 @@ module _ (bytes : List ℕ) where
         }
       where
         stands : at ≡ latest bytes (bucketOf r) n
-        stands = h ∙ x .head b l ∙ ap (λ c. latest bytes c n) e
+        stands = h ∙ x .head b (bucket-below b r e) ∙ ap (λ c. latest bytes c n) e
 
     module _ (n at : ℕ) (s : Searching n at) where
-      pub search-found : 0 < at → holdsRow bytes (at - 1) r ≡ true → true ≡ repeatedBelow bytes r n
-      search-found l h = sym (repeated-at bytes r (at - 1) n (omega (arith, s .within)) h)
+      pub search-found : 0 < at → holdsRow bytes (at - 1) r ≡ true → Decides true (OlderRowHolds bytes r n)
+      search-found l h = says-yes (at - 1, omega (arith, s .within), holds-row bytes (at - 1) r .0 h)
 
-      pub search-done : at ≤ 0 → false ≡ repeatedBelow bytes r n
+      pub search-done : at ≤ 0 → Decides false (OlderRowHolds bytes r n)
       unfolding repeatedBelow
-      search-done l = sym (s .answer ∙ ap (repeatedBelow bytes r) end)
+      search-done l = subst (λ b. Decides b (OlderRowHolds bytes r n)) (s .answer ∙ ap (repeatedBelow bytes r) end) (repeated-any bytes r n)
         where
           end : at ≡ 0
           end = omega arith
@@ -143,10 +147,10 @@ module _ (bytes : List ℕ) where
     link = λ i l. absurd (omega arith);
   }
 
-  -- `add_row`
-  pub index-next : (n b : ℕ) (heads links : List ℕ) → Indexed bytes n heads links → n < 3072 → b ≡ bucketOf (rowOf bytes n) → b < 2048
+  -- row n heads its bucket's chain
+  index-next : (n b : ℕ) (heads links : List ℕ) → Indexed bytes n heads links → n < 3072 → b ≡ bucketOf (rowOf bytes n)
       → Indexed bytes (n + 1) (set heads b (n + 1)) (set links n (getD heads b 0))
-  index-next n b heads links x small e l =
+  index-next n b heads links x small e =
       subst (λ m. Indexed bytes m (set heads b m) (set links n (getD heads b 0))) (sym (add-one n))
       (record {
         buckets = length-set heads b (suc n) ∙ x .buckets;
@@ -155,6 +159,9 @@ module _ (bytes : List ℕ) where
         link = λ i k. link-of i k (ℕ-discrete i n);
       })
     where
+      l : b < 2048
+      l = bucket-below b (rowOf bytes n) e
+
       head-of : (c : ℕ) → c < 2048 → Dec (c ≡ b) → getD (set heads b (suc n)) c 0 ≡ latest bytes c (suc n)
       head-of c k (yes f) =
           ap (λ m. getD (set heads b (suc n)) m 0) f ∙ getD-set-same heads b (suc n) 0 (omega (arith, x .buckets)) ∙ sym (here c n (sym e ∙ sym f))
@@ -165,3 +172,11 @@ module _ (bytes : List ℕ) where
           subst (λ m. getD (set links n (getD heads b 0)) m 0 ≡ latest bytes (bucketOf (rowOf bytes m)) m) (sym f)
           (getD-set-same links n (getD heads b 0) 0 (omega (arith, x .room)) ∙ x .head b l ∙ ap (λ c. latest bytes c n) e)
       link-of i k (no f) = getD-set-other links n i (getD heads b 0) 0 f ∙ x .link i (omega arith)
+
+  -- `check_rows`: what `add_row` leaves indexes one row more
+  pub index-added : (n b : ℕ) (r : Row) (heads links heads′ links′ : List ℕ) → Indexed bytes n heads links → n < 3072 → r ≡ rowOf bytes n → b ≡ bucketOf r
+      → heads′ ≡ set heads b (n + 1) → links′ ≡ set links n (getD heads b 0) → Indexed bytes (n + 1) heads′ links′
+  index-added n b r heads links heads′ links′ x small d e f g =
+      subst (λ h. Indexed bytes (n + 1) h links′) (sym f)
+      (subst (λ l. Indexed bytes (n + 1) (set heads b (n + 1)) l) (sym g)
+      (index-next n b heads links x small (e ∙ ap bucketOf d)))

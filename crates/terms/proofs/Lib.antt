@@ -7,6 +7,7 @@ pub mod GoodRows
 pub mod CheckLaws
 pub mod TermLaws
 pub mod NodeLaws
+pub mod RepetitionLaws
 pub mod TableLaws
 pub mod VisitLaws
 pub mod WalkLaws

@@ -7,7 +7,7 @@ use mathlib.Core.List.{List, [], _∷_}
 use Prim.Native.Nat.{ℕ, zero, suc, _+_, _*_, _≤_, _<_}
 use native.Mathlib.Omega.{arith}
 use lib.Dec.{eqb}
-use lib.ListN.{length, getD}
+use lib.ListN.{length}
 use borrow.Author.Tests.{eqb-true, eq-eqb}
 use Rattle.terms.specs.Term.{var}
 use Rattle.terms.specs.Decides.{Decides}
@@ -22,12 +22,8 @@ use Rattle.terms.specs.declared.nodes.Node.the-variants as node
 use Rattle.terms.proofs.Tables.{and-left, and-right}
 use Rattle.terms.proofs.Shape.{each, tagNumber, tagIn-shape, tagOf-known, tagOf-inj, child-shape, child-beyond, number-shape, no-number}
 use Rattle.terms.proofs.TagTables.{tag-is}
-use Rattle.terms.proofs.GoodRows.{good-child}
+use Rattle.terms.proofs.GoodRows.{rowWord, good-child}
 use Rattle.terms.proofs.TermLaws.{Described, spelled, row-described, unfolded, holds-spells}
-
--- word j of five words
-unfoldable pub rowWord : Row → ℕ → ℕ
-rowWord r j = getD (r .tag ∷ r .a ∷ r .b ∷ r .c ∷ r .d ∷ []) j 0
 
 abbrev pub Holds : List ℕ → ℕ → Row → Type 0
 Holds bytes n r = (j : ℕ) → j < 5 → word bytes n j ≡ rowWord r j

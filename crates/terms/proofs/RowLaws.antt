@@ -1,23 +1,23 @@
 -- What the functions on single rows answer, from what their callees answer.
 -- Assumes nothing.
-use mathlib.Core.Path.{_≡_, refl, sym, _∙_, ap, ap₂, subst}
-use mathlib.Core.Bool.{true, false, _&&_, _||_, or-true}
-use mathlib.Core.Logic.{⊎-elim}
-use mathlib.Core.List.{List}
-use Prim.Native.Nat.{ℕ, zero, suc, _+_, _-_, _*_, _≤_, _<_}
-use native.Mathlib.Nat.{eq-or-lt-of-le}
+use mathlib.Core.Path.{_≡_, sym, _∙_, ap, subst}
+use mathlib.Core.Bool.{true, false, _&&_}
+use mathlib.Core.List.{List, [], _∷_}
+use Prim.Native.Nat.{ℕ, suc, _+_, _*_, _≤_, _<_, min}
 use native.Mathlib.Omega.{arith}
+use native.Mathlib.Decide.{decLe}
 use lib.Dec.{ltb, eqb}
 use lib.ListN.{length, getD}
 use borrow.Author.Tests.{eq-eqb, ne-eqb, le-leb, lt-leb}
 use Rattle.terms.specs.Tag.{Var, Univ, tagOf, arity, used}
+use Rattle.terms.specs.Words.{wordAt}
 use Rattle.terms.specs.Rows.{word, tag}
 use Rattle.terms.specs.Table.{limit, usedLimit}
-use Rattle.terms.specs.Sizes.{rowOf, fitsRow, holdsRow, repeatedBelow, sumTo, rowSize}
+use Rattle.terms.specs.Sizes.{rowOf, fitsRow, holdsRow, sumTo, rowSize}
 use Rattle.terms.specs.declared.rows.Row.{Row}
 use Rattle.terms.proofs.Shape.{tagNumber}
-use Rattle.terms.proofs.GoodRows.{fits-good, good-child}
-use Rattle.terms.proofs.TagTables.{tag-is, usedLimit-child}
+use Rattle.terms.proofs.GoodRows.{rowWord, fits-child}
+use Rattle.terms.proofs.TagTables.{tag-is, usedLimit-child, arity-most}
 
 -- `limit`, where u operands of the tag m are used
 module _ (m n j u : ℕ) (h : m ≤ 13) (e : u ≡ used (tagOf m)) where
@@ -68,64 +68,60 @@ module _ (bytes : List ℕ) (n : ℕ) (r : Row) where
   unfolding holdsRow
   holds-rest w v t x y e f g h k l = rw (eq-eqb (word bytes n 1) (r .a) (sym e ∙ f), g, h, k, l, holdsRow)
 
--- `repeated`
-module _ (bytes : List ℕ) (r : Row) where
-  pub repeated-at : (i n : ℕ) → i < n → holdsRow bytes i r ≡ true → repeatedBelow bytes r n ≡ true
-  unfolding repeatedBelow
-  repeated-at i zero l h = absurd (omega arith)
-  repeated-at i (suc n) l h =
-      ⊎-elim (λ e. ap (λ b. repeatedBelow bytes r n || b) (ap (λ m. holdsRow bytes m r) (sym e) ∙ h) ∙ or-true (repeatedBelow bytes r n))
-      (λ m. ap (λ b. b || holdsRow bytes n r) (repeated-at i n m h)) (eq-or-lt-of-le (le-of-lt-suc l))
-    where
-      le-of-lt-suc : i < suc n → i ≤ n
-      le-of-lt-suc x = omega arith
+-- `child_size`: what it answers, where x is the child's size
+abbrev Summand : ℕ → ℕ → ℕ → ℕ → Type 0
+Summand count j x s = (j ≤ count → s ≡ x) × (count < j → s ≡ 0)
 
--- `row_size`: the sum after the places before j
-module _ (bytes : List ℕ) (n : ℕ) (sizes : List ℕ) where
-  abbrev childSize : ℕ → ℕ
-  childSize j = getD sizes (word bytes n j) 0
-
-  pub record Summed (count total j : ℕ) : Type 0 where
-    pub from : 1 ≤ j
-    pub to : j ≤ count + 1
-    pub sum : total ≡ 1 + sumTo (j - 1) childSize
-    pub small : total ≤ j * 4294967296
-
-  pub sum-start : (count : ℕ) → Summed count 1 1
+module _ (f : ℕ → ℕ) (count : ℕ) where
+  -- a sum goes on to the next place, if that counts
+  sum-next : (j s : ℕ) → Summand count (suc j) (f (suc j)) s → sumTo (min count j) f + s ≡ sumTo (min count (suc j)) f
   unfolding sumTo
-  sum-start count = record { from = omega arith; to = omega arith; sum = refl; small = omega arith }
+  sum-next j s p = at (decLe (suc j) count)
+    where
+      at : Dec (suc j ≤ count) → sumTo (min count j) f + s ≡ sumTo (min count (suc j)) f
+      at (yes h) =
+          let here : min count j ≡ j = omega arith in
+          let next : min count (suc j) ≡ suc j = omega arith in
+          rw (here, next, p .0 h)
+      at (no h) =
+          let here : min count j ≡ count = omega arith in
+          let next : min count (suc j) ≡ count = omega arith in
+          rw (here, next) (omega (arith, p .1 (omega arith)))
 
-  pub sum-next : (count total j w s : ℕ) → Summed count total j → j ≤ count → w ≡ word bytes n j → s ≡ getD sizes w 0 → getD sizes w 0 < 4294967296 → Summed count (total + s) (j + 1)
+  -- at most four places count
+  sum-places : (s t u v : ℕ) → count ≤ 4 → Summand count 1 (f 1) s → Summand count 2 (f 2) t → Summand count 3 (f 3) u → Summand count 4 (f 4) v
+      → 1 + s + t + u + v ≡ 1 + sumTo count f
   unfolding sumTo
-  sum-next count total j w s i h d e l =
-      record {
-        from = omega arith;
-        to = omega arith;
-        sum = ap₂ _+_ (i .sum) (e ∙ ap (λ v. getD sizes v 0) d ∙ ap childSize back) ∙ assoc (sumTo (j - 1) childSize) (childSize (suc (j - 1))) ∙ ap (λ m. 1 + sumTo m childSize) up;
-        small = omega (arith, i .small, e);
-      }
-    where
-      back : j ≡ suc (j - 1)
-      back = omega (arith, i .from)
+  sum-places s t u v l p q x y =
+      let none : min count 0 ≡ 0 = omega arith in
+      let all : min count 4 ≡ count = omega arith in
+      omega (arith, ap (λ m. sumTo m f) none, sum-next 0 s p, sum-next 1 t q, sum-next 2 u x, sum-next 3 v y, ap (λ m. sumTo m f) all)
 
-      up : suc (j - 1) ≡ j + 1 - 1
-      up = omega (arith, i .from)
+-- `row_size`
+module _ (sizes : List ℕ) where
+  -- the child at a place that the tag uses has its size in the list
+  pub child-known : (r : Row) (count : ℕ) → fitsRow r (length sizes) ≡ true → count ≡ arity (tagOf (r .tag)) → (j : ℕ) → 1 ≤ j → j ≤ count → rowWord r j < length sizes
+  child-known r count h e j low high = fits-child r (length sizes) h j low (subst (λ m. j ≤ m) e high)
 
-      assoc : (x y : ℕ) → 1 + x + y ≡ 1 + (x + y)
-      assoc x y = omega arith
+  module _ (count s t u v : ℕ) where
+    abbrev Summands : Row → Type 0
+    Summands r =
+        (count ≡ arity (tagOf (r .tag))) × Summand count 1 (getD sizes (r .a) 0) s × Summand count 2 (getD sizes (r .b) 0) t
+        × Summand count 3 (getD sizes (r .c) 0) u × Summand count 4 (getD sizes (r .d) 0) v
 
-  pub sum-end : (t count total j : ℕ) → Summed count total j → count < j → t ≡ word bytes n 0 → count ≡ arity (tagOf t) → total ≡ rowSize bytes n sizes
-  unfolding rowSize tag
-  sum-end t count total j i h e f = i .sum ∙ ap (λ m. 1 + sumTo m childSize) (passed ∙ f ∙ ap (λ m. arity (tagOf m)) e)
-    where
-      passed : j - 1 ≡ count
-      passed = omega (arith, i .to)
+    at-row : (bytes : List ℕ) (n : ℕ) → Summands (rowOf bytes n) → 1 + s + t + u + v ≡ rowSize bytes n sizes
+    unfolding rowOf rowSize tag
+    at-row bytes n p =
+        sum-places (λ j. getD sizes (word bytes n j) 0) count s t u v (omega (arith, arity-most (tag bytes n), p .0)) (p .1) (p .2) (p .3) (p .4)
+        ∙ ap (λ m. 1 + sumTo m (λ j. getD sizes (word bytes n j) 0)) (p .0)
 
-  module _ (good : fitsRow (rowOf bytes n) n ≡ true) (long : length sizes ≡ n) where
-    -- the child at a place that the tag uses has its size in the list
-    pub child-known : (t count j w : ℕ) → t ≡ word bytes n 0 → count ≡ arity (tagOf t) → 1 ≤ j → j ≤ count → w ≡ word bytes n j → w < length sizes
-    unfolding tag
-    child-known t count j w e f low high g =
-        let most : j ≤ arity (tag bytes n) = subst (λ m. j ≤ m) (f ∙ ap (λ m. arity (tagOf m)) e) high in
-        let below = good-child bytes n (fits-good bytes n good) j low most in
-        omega arith
+    pub size-is : (r : Row) → Summands r → (bytes : List ℕ) (n : ℕ) → r ≡ rowOf bytes n → 1 + s + t + u + v ≡ rowSize bytes n sizes
+    size-is r p bytes n e = at-row bytes n (subst Summands e p)
+
+-- any five words are a row of some table, so that the promise of `row_size` says what it answers
+pub some-table : (r : Row) → (bytes : List ℕ) × (r ≡ rowOf bytes 0)
+unfolding rowOf word wordAt
+some-table r = (r .tag ∷ 0 ∷ r .a ∷ 0 ∷ r .b ∷ 0 ∷ r .c ∷ 0 ∷ r .d ∷ 0 ∷ [], λ i. record { tag = low (r .tag) i; a = low (r .a) i; b = low (r .b) i; c = low (r .c) i; d = low (r .d) i })
+  where
+    low : (w : ℕ) → w ≡ w + 256 * 0
+    low w = omega arith

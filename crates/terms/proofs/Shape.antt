@@ -31,6 +31,13 @@ pub each : (P : ℕ → Type 0) (n : ℕ) → Each P n → (j : ℕ) → 1 ≤ j
 each P zero p j low high = absurd (omega arith)
 each P (suc n) p j low high = ⊎-elim (λ e. subst P (sym e) (p .1)) (λ h. each P n (p .0) j low (omega arith)) (eq-or-lt-of-le high)
 
+-- k is below n or n itself
+pub below-or-last : (P : ℕ → Type 0) (n k : ℕ) → k < suc n → (k < n → P k) → P n → P k
+below-or-last P n k h p q = ⊎-elim (λ e. subst P (sym e) q) p (eq-or-lt-of-le (at-most h))
+  where
+    at-most : k < suc n → k ≤ n
+    at-most l = omega arith
+
 -- a proof for each number of a tag, 0 among them, which is none
 pub each-tag : (P : ℕ → Type 0) → P 0 → Each P 13 → (n : ℕ) → n ≤ 13 → P n
 each-tag P z p n h = ⊎-elim (λ e. subst P e z) (λ low. each P 13 p n low h) (eq-or-lt-of-le zero-le)

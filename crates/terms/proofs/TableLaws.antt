@@ -1,11 +1,11 @@
--- The check of a term table answers for its declarative reading, numbers 5 to 7, and the sizes that it leaves are the trees' sizes.
+-- The check of a term table answers for its declarative reading, numbers 5 to 7, and the sizes that it leaves are the
+-- trees' sizes.
 -- Assumes nothing.
 use mathlib.Core.Path.{_≡_, refl, sym, _∙_, ap, subst}
 use mathlib.Core.Logic.{_↔_, _⊎_, inl, inr, ⊎-elim}
-use mathlib.Core.Bool.{Bool, true, false, _||_, false≢true}
+use mathlib.Core.Bool.{Bool, true, false, false≢true}
 use mathlib.Core.List.{List, [], _∷_, _++_}
 use Prim.Native.Nat.{ℕ, zero, suc, _+_, _*_, _≤_, _<_}
-use native.Mathlib.Nat.{eq-or-lt-of-le}
 use native.Mathlib.Omega.{arith}
 use lib.Dec.{ltb}
 use lib.ListN.{length, getD, length-append, List·getD-append}
@@ -15,16 +15,14 @@ use Rattle.terms.specs.Term.{size}
 use Rattle.terms.specs.Tag.{arity}
 use Rattle.terms.specs.Rows.{word, tag, term}
 use Rattle.terms.specs.Table.{GoodRow, SameRow, TermTable, RepeatsRow, RowFault, broken, repeated, large, FirstFaultyRow, TreeSizes}
-use Rattle.terms.specs.Sizes.{rowOf, fitsRow, holdsRow, repeatedBelow, sumTo, rowSize, sizeAnswer, rowAnswer, Checked, checkFrom, checkTerms}
-use Rattle.terms.specs.declared.rows.Row.{Row}
+use Rattle.terms.specs.Sizes.{rowOf, fitsRow, repeatedBelow, sumTo, rowSize, sizeAnswer, rowAnswer, Checked, checkFrom, checkTerms}
 use Rattle.terms.specs.declared.sizes.RowAnswer.{RowAnswer}
 use Rattle.terms.specs.declared.sizes.RowAnswer.the-variants.{Fault, Size}
 use Rattle.terms.specs.declared.sizes.TermsAnswer.the-variants.{Sound, Faulty}
-use Rattle.terms.proofs.Shape.{AtChildren, each, size-shape}
+use Rattle.terms.proofs.Shape.{AtChildren, below-or-last, size-shape}
 use Rattle.terms.proofs.GoodRows.{fits-good, good-fits, good-child}
-use Rattle.terms.proofs.RowLaws.{repeated-at}
 use Rattle.terms.proofs.TermLaws.{Downward, term-step}
-use Rattle.terms.proofs.NodeLaws.{rowWord, holds-words}
+use Rattle.terms.proofs.RepetitionLaws.{same-words, repeated-any}
 
 either : (b : Bool) → (b ≡ true) ⊎ (b ≡ false)
 either true = inl refl
@@ -33,13 +31,6 @@ either false = inr refl
 never : {A : Type 0} {b : Bool} → b ≡ true → b ≡ false → A
 never h k = absurd (false≢true (sym k ∙ h))
 
--- k is below n or n itself
-below-or-last : (P : ℕ → Type 0) (n k : ℕ) → k < suc n → (k < n → P k) → P n → P k
-below-or-last P n k h p q = ⊎-elim (λ e. subst P (sym e) q) p (eq-or-lt-of-le (at-most h))
-  where
-    at-most : k < suc n → k ≤ n
-    at-most l = omega arith
-
 sum-cong : (n : ℕ) (f g : ℕ → ℕ) → ((j : ℕ) → 1 ≤ j → j ≤ n → f j ≡ g j) → sumTo n f ≡ sumTo n g
 unfolding sumTo
 sum-cong zero f g h = refl
@@ -47,32 +38,14 @@ sum-cong (suc n) f g h = λ i. sum-cong n f g (λ j low high. h j low (omega ari
 
 module _ (bytes : List ℕ) where
   -- number 6 by computation is number 6 as it reads
-  row-word : (n j : ℕ) → j < 5 → rowWord (rowOf bytes n) j ≡ word bytes n j
-  unfolding rowWord rowOf
-  row-word n zero l = refl
-  row-word n (suc j) l = each (λ i. rowWord (rowOf bytes n) i ≡ word bytes n i) 4 ((((tt, refl), refl), refl), refl) (suc j) (omega arith) (omega arith)
-
-  held-same : (m n : ℕ) → (holdsRow bytes m (rowOf bytes n) ≡ true) ↔ SameRow bytes m n
-  held-same m n =
-      let w = holds-words bytes m (rowOf bytes n) in
-      (λ h j l. w .0 h j l ∙ row-word n j l, λ s. w .1 (λ j l. s j l ∙ sym (row-word n j l)))
-
-  held-some : (r : Row) (n : ℕ) → repeatedBelow bytes r n ≡ true → (m : ℕ) × (m < n) × (holdsRow bytes m r ≡ true)
-  unfolding repeatedBelow
-  held-some r zero h = absurd (false≢true h)
-  held-some r (suc n) h =
-      ⊎-elim
-      (λ e. let s = held-some r n e in (s .0, omega (arith, s .1), s .2))
-      (λ e. (n, omega arith, ap (λ b. b || holdsRow bytes n r) (sym e) ∙ h))
-      (either (repeatedBelow bytes r n))
-
   repeated-is : (n : ℕ) → (repeatedBelow bytes (rowOf bytes n) n ≡ true) ↔ RepeatsRow bytes n
-  repeated-is n = (
-    λ h. let s = held-some (rowOf bytes n) n h in (s .0, s .1, held-same (s .0) n .0 (s .2)),
-    λ r. repeated-at bytes (rowOf bytes n) (r .0) n (r .1) (held-same (r .0) n .1 (r .2)),
-  )
+  repeated-is n =
+      let d = repeated-any bytes (rowOf bytes n) n in (
+        λ h. let s = d .0 h in (s .0, s .1, same-words bytes (s .0) n .0 (s .2)),
+        λ s. d .1 (s .0, s .1, same-words bytes (s .0) n .1 (s .2)),
+      )
 
-  -- the size that the check computes for a good row is its tree's, while the list holds the sizes of the trees before it
+  -- the size that the check computes for a good row is its tree's, while the list holds the sizes of the trees before
   pub sizes-are : (n : ℕ) (sizes : List ℕ) → TermTable bytes n → TreeSizes bytes n sizes → GoodRow bytes n → rowSize bytes n sizes ≡ size (term bytes n)
   unfolding rowSize
   sizes-are n sizes table known good =

@@ -9,6 +9,7 @@ pub mod Words
 pub mod Rows
 pub mod Table
 pub mod Sizes
+pub mod Repetition
 pub mod RowIndex
 pub mod Nodes
 pub mod Held

@@ -1,17 +1,18 @@
 // The check of a term table: numbers 5, 6 and 7, and the sizes that it leaves.
 use crate::row_index::add_row;
+use crate::row_index::bucket_of;
 use crate::row_index::repeated;
 use crate::rows::Row;
 use crate::rows::read_row;
-use crate::rows::word;
 use crate::tags::arity;
 use crate::tags::limit;
 ghost use mathlib.Core.Path.{_≡_};
 ghost use mathlib.Core.Bool.{true};
-ghost use Prim.Native.Nat.{_+_, _*_, _<_, _≤_};
-ghost use lib.ListN.{length};
+ghost use mathlib.Core.List.{List};
+ghost use Prim.Native.Nat.{ℕ, _*_, _<_, _≤_};
+ghost use lib.ListN.{length, getD};
 ghost use Rattle.terms.specs.Sizes.{fitsRow, rowOf, rowSize, rowAnswer, checkTerms, over};
-ghost use Rattle.terms.specs.RowIndex.{Indexed};
+ghost use Rattle.terms.specs.RowIndex.{bucketOf, Indexed};
 
 // What the check of one row finds.
 pub enum RowAnswer {
@@ -48,33 +49,50 @@ fn fits(row: Row, n: usize) -> bool
         & (row.d < limit(tag, n, 4))
 }
 
-// The size of row `n`, whose children's sizes are known.
-fn row_size(rows: &[u8], n: usize, sizes: &[u32]) -> usize
-    requires { ⌜ (10 * n + 10 ≤ length (now rows)) × (fitsRow (rowOf (now rows) n) n ≡ true) × (length (now sizes) ≡ n) ⌝ }
-    ensures { λ r. ⌜ r ≡ rowSize (now (rows .entry)) n (now (sizes .entry)) ⌝ }
+// The size of the child at place `j` of a row with `count` children; 0 if it has fewer.
+fn child_size(count: usize, j: usize, child: usize, sizes: &[u32]) -> usize
+    requires { ⌜ (j ≤ count → child < length (now sizes)) ⌝ }
+    ensures value { λ r. ⌜ (j ≤ count → r ≡ getD (now (sizes .entry)) child 0) × (count < j → r ≡ 0) ⌝ }
+    ensures range { λ r. ⌜ r < 4294967296 ⌝ }
 {
-    let count = arity(word(rows, n, 0));
-    let mut total: usize = 1;
-    let mut j = 1;
-    while j <= count {
-        let child = word(rows, n, j);
-        total += wide(sizes[child]);
-        j += 1;
+    if count < j {
+        return 0;
     }
-    total
+    wide(sizes[child])
 }
 
-// The first of 5, 6 and 7 that row `n` breaks, or its size. The rows before it are indexed.
-fn row_answer(rows: &[u8], n: usize, sizes: &[u32], heads: &[u16], links: &[u16]) -> RowAnswer
-    requires { ⌜ (10 * n + 10 ≤ length (now rows)) × (length (now sizes) ≡ n) × (n ≤ 3072) × Indexed (now rows) n (now heads) (now links) ⌝ }
+// The size of a row with these words, in whatever table it stands; its children's sizes are known.
+fn row_size(row: Row, sizes: &[u32]) -> usize
+    requires { ⌜ fitsRow row (length (now sizes)) ≡ true ⌝ }
+    ensures { λ r. ⌜ ((bytes : List ℕ) (n : ℕ) → row ≡ rowOf bytes n → r ≡ rowSize bytes n (now (sizes .entry))) ⌝ }
+{
+    let count = arity(row.tag);
+    1
+        + child_size(count, 1, row.a, sizes)
+        + child_size(count, 2, row.b, sizes)
+        + child_size(count, 3, row.c, sizes)
+        + child_size(count, 4, row.d, sizes)
+}
+
+// The first of 5, 6 and 7 that row `n` breaks, or its size. Its words and their bucket are given; the rows before it
+// are indexed.
+fn row_answer(
+    rows: &[u8],
+    n: usize,
+    row: Row,
+    bucket: usize,
+    sizes: &[u32],
+    heads: &[u16],
+    links: &[u16],
+) -> RowAnswer
+    requires { ⌜ (10 * n ≤ length (now rows)) × (length (now sizes) ≡ n) × (n ≤ 3072) × (row ≡ rowOf (now rows) n) × (bucket ≡ bucketOf row) × Indexed (now rows) n (now heads) (now links) ⌝ }
     ensures { λ r. ⌜ r ≡ rowAnswer (now (rows .entry)) n (now (sizes .entry)) ⌝ }
 {
-    let words = read_row(rows, n);
-    if fits(words, n) {
-        if repeated(rows, n, words, heads, links) {
+    if fits(row, n) {
+        if repeated(rows, n, row, bucket, heads, links) {
             return RowAnswer::Fault(6);
         }
-        let size = row_size(rows, n, sizes);
+        let size = row_size(row, sizes);
         if 65535 < size {
             return RowAnswer::Fault(7);
         }
@@ -84,7 +102,8 @@ fn row_answer(rows: &[u8], n: usize, sizes: &[u32], heads: &[u16], links: &[u16]
     }
 }
 
-// Checks the first `count` rows in order, with an index that is empty at first.
+// Checks the first `count` rows in order, with an index that is empty at first. A row is read and its bucket computed
+// here, once.
 fn check_rows(
     rows: &[u8],
     count: usize,
@@ -98,7 +117,9 @@ fn check_rows(
 {
     let mut k = 0;
     while k < count {
-        match row_answer(rows, k, &work[..k], heads, links) {
+        let row = read_row(rows, k);
+        let bucket = bucket_of(row);
+        match row_answer(rows, k, row, bucket, &work[..k], heads, links) {
             RowAnswer::Fault(number) => {
                 return TermsAnswer::Faulty { number, place: k };
             }
@@ -108,7 +129,7 @@ fn check_rows(
                 work[at] = size;
             }
         }
-        add_row(rows, k, heads, links);
+        add_row(k, bucket, heads, links);
         k += 1;
     }
     TermsAnswer::Sound

@@ -5,6 +5,7 @@ use Prim.Native.Nat.{_-_}
 use native.Mathlib.Omega.{arith}
 use borrow.Author.Needs.{needs}
 use Rattle.terms.specs.RowIndex.{Indexed}
+use Rattle.terms.proofs.IndexLaws.{bucket-below, index-added}
 use Rattle.terms.proofs.CheckLaws.{Reached, reached-start, reached-fault, reached-next, reached-end}
 use Rattle.terms.proofs.sizes.check_rows.Statement.{statement}
 use Rattle.terms.proofs.sizes.check_rows.Tie as tie
@@ -18,50 +19,66 @@ abbrev μ-loop : tie.MeasureT-loop
 loop-holds : tie.Need-loop-holds Inv-loop μ-loop
 loop-holds c = (reached-start _ _ _, c .before .before .before .before .pre .3)
 
+read-row-requires : tie.Need-read-row-requires Inv-loop μ-loop
+read-row-requires c κs = omega (arith, c .before .before .before .before .before .before .pre .0, c .loop-test .taken)
+
+bucket-of-requires : tie.Need-bucket-of-requires Inv-loop μ-loop
+bucket-of-requires c κs = search needs
+
 slice-reshare-prefix-row-answer : tie.Need-slice-reshare-prefix-row-answer Inv-loop μ-loop
-slice-reshare-prefix-row-answer c = omega (arith, c .before .loop .inv .0)
+slice-reshare-prefix-row-answer c = omega (arith, c .before .before .before .loop .inv .0)
 
 slice-aggregate-row-answer : tie.Need-slice-aggregate-row-answer Inv-loop μ-loop
-slice-aggregate-row-answer c = sym (length-take-le _ (c .before .before .loop .work) (omega (arith, c .before .before .loop .inv .0)))
+slice-aggregate-row-answer c = sym (length-take-le _ (c .before .before .before .before .loop .work) (omega (arith, c .before .before .before .before .loop .inv .0)))
 
 row-answer-requires : tie.Need-row-answer-requires Inv-loop μ-loop
-row-answer-requires c κs = (omega (arith, c .before .before .before .before .before .before .before .before .before .pre .0, c .before .before .before .loop-test .taken), length-take-le _ (c .before .before .before .before .loop .work) (omega (arith, c .before .before .before .before .loop .inv .0)), omega (arith, c .before .before .before .before .loop .inv .0 .within, c .before .before .before .before .before .before .before .before .before .pre .1), c .before .before .before .before .loop .inv .1)
+row-answer-requires c κs = (
+  omega (arith, c .before .before .before .before .before .before .before .before .before .before .before .pre .0, c .before .before .before .before .before .loop-test .taken),
+  length-take-le _ (c .before .before .before .before .before .before .loop .work) (omega (arith, c .before .before .before .before .before .before .loop .inv .0)),
+  omega (arith, c .before .before .before .before .before .before .loop .inv .0 .within, c .before .before .before .before .before .before .before .before .before .before .before .pre .1),
+  c .before .before .before .before .read-row .ensures,
+  c .before .before .before .bucket-of .ensures,
+  c .before .before .before .before .before .before .loop .inv .1,
+)
 
 enum-known-number : tie.Need-enum-known-number Inv-loop μ-loop
 enum-known-number c = search needs
 
 same-length : tie.Need-same-length Inv-loop μ-loop
-same-length c = c .before .before .before .before .before .before .before .before .loop .inv .0 .long
+same-length c = c .before .before .before .before .before .before .before .before .before .before .loop .inv .0 .long
 
 same-length-2 : tie.Need-same-length-2 Inv-loop μ-loop
-same-length-2 c = c .before .before .before .before .before .before .before .before .loop .inv .1 .buckets ∙ sym (c .before .before .before .before .before .before .before .before .before .before .before .before .before .pre .3 .buckets)
+same-length-2 c = c .before .before .before .before .before .before .before .before .before .before .loop .inv .1 .buckets ∙ sym (c .before .before .before .before .before .before .before .before .before .before .before .before .before .before .before .pre .3 .buckets)
 
 same-length-3 : tie.Need-same-length-3 Inv-loop μ-loop
-same-length-3 c = c .before .before .before .before .before .before .before .before .loop .inv .1 .room ∙ sym (c .before .before .before .before .before .before .before .before .before .before .before .before .before .pre .3 .room)
+same-length-3 c = c .before .before .before .before .before .before .before .before .before .before .loop .inv .1 .room ∙ sym (c .before .before .before .before .before .before .before .before .before .before .before .before .before .before .before .pre .3 .room)
 
 returns : tie.Need-returns Inv-loop μ-loop
-returns c = reached-fault _ _ _ (c .before .before .before .before .before .before .before .before .before .before .before .before .before .pre .2) (c .before .before .before .before .before .before .before .before .loop .work) _ (c .before .before .before .before .before .before .before .before .loop .inv .0) (c .before .before .before .before .before .before .before .loop-test .taken) _ (sym (c .before .number .given .1) ∙ c .before .before .before .row-answer .ensures)
+returns c = reached-fault _ _ _ (c .before .before .before .before .before .before .before .before .before .before .before .before .before .before .before .pre .2) (c .before .before .before .before .before .before .before .before .before .before .loop .work) _ (c .before .before .before .before .before .before .before .before .before .before .loop .inv .0) (c .before .before .before .before .before .before .before .before .before .loop-test .taken) _ (sym (c .before .number .given .1) ∙ c .before .before .before .row-answer .ensures)
 
 enum-known-size : tie.Need-enum-known-size Inv-loop μ-loop
 enum-known-size c = search needs
 
 mul-work : tie.Need-mul-work Inv-loop μ-loop
-mul-work c = omega (arith, c .before .before .before .before .before .before .before .before .loop .inv .0 .within, c .before .before .before .before .before .before .before .before .before .before .before .before .before .pre .1)
+mul-work c = omega (arith, c .before .before .before .before .before .before .before .before .before .before .loop .inv .0 .within, c .before .before .before .before .before .before .before .before .before .before .before .before .before .before .before .pre .1)
 
 slice-write-work : tie.Need-slice-write-work Inv-loop μ-loop
-slice-write-work c = omega (arith, c .before .before .before .before .before .before .before .before .loop .inv .0)
+slice-write-work c = omega (arith, c .before .before .before .before .before .before .before .before .before .before .loop .inv .0)
 
 add-row-requires : tie.Need-add-row-requires Inv-loop μ-loop
-add-row-requires c κs = (omega (arith, c .before .before .before .before .before .before .before .before .before .before .before .before .before .before .before .pre .0, c .before .before .before .before .before .before .before .before .before .loop-test .taken), omega (arith, c .before .before .before .before .before .before .before .before .before .loop-test .taken, c .before .before .before .before .before .before .before .before .before .before .before .before .before .before .before .pre .1), c .before .before .before .before .before .before .before .before .before .before .loop .inv .1)
+add-row-requires c κs = (omega (arith, c .before .before .before .before .before .before .before .before .before .before .before .loop-test .taken, c .before .before .before .before .before .before .before .before .before .before .before .before .before .before .before .before .before .pre .1), bucket-below _ _ (c .before .before .before .before .before .before .before .before .before .bucket-of .ensures), c .before .before .before .before .before .before .before .before .before .before .before .before .loop .inv .1 .buckets, c .before .before .before .before .before .before .before .before .before .before .before .before .loop .inv .1 .room)
 
 add-k : tie.Need-add-k Inv-loop μ-loop
-add-k c = omega (arith, c .before .before .before .before .before .before .before .before .before .before .before .before .before .before .before .loop .inv .0 .within, c .before .before .before .before .before .before .before .before .before .before .before .before .before .before .before .before .before .before .before .before .pre .1)
+add-k c = omega (arith, c .before .before .before .before .before .before .before .before .before .before .before .before .before .before .before .before .before .loop .inv .0 .within, c .before .before .before .before .before .before .before .before .before .before .before .before .before .before .before .before .before .before .before .before .before .before .pre .1)
 
 loop-less : tie.Need-loop-less Inv-loop μ-loop
 loop-less c = omega arith
 
 loop-again : tie.Need-loop-again Inv-loop μ-loop
-loop-again c = (reached-next _ _ _ (c .before .before .before .before .before .before .before .before .before .before .before .before .before .before .before .before .before .before .before .before .pre .2) (c .before .before .before .before .before .before .before .before .before .before .before .before .before .before .before .loop .work) _ (c .before .before .before .before .before .before .before .before .before .before .before .before .before .before .before .loop .inv .0) (c .before .before .before .before .before .before .before .before .before .before .before .before .before .before .loop-test .taken) _ (sym (c .before .before .before .before .before .before .before .before .size .given .1) ∙ c .before .before .before .before .before .before .before .before .before .before .row-answer .ensures), c .before .before .before .before .add-row .ensures)
+loop-again c = (
+  reached-next _ _ _ (c .before .before .before .before .before .before .before .before .before .before .before .before .before .before .before .before .before .before .before .before .before .before .pre .2) (c .before .before .before .before .before .before .before .before .before .before .before .before .before .before .before .before .before .loop .work) _ (c .before .before .before .before .before .before .before .before .before .before .before .before .before .before .before .before .before .loop .inv .0) (c .before .before .before .before .before .before .before .before .before .before .before .before .before .before .before .before .loop-test .taken) _ (sym (c .before .before .before .before .before .before .before .before .size .given .1) ∙ c .before .before .before .before .before .before .before .before .before .before .row-answer .ensures),
+  index-added _ _ _ _ _ _ _ _ (c .before .before .before .before .before .before .before .before .before .before .before .before .before .before .before .before .before .loop .inv .1) (omega (arith, c .before .before .before .before .before .before .before .before .before .before .before .before .before .before .before .before .loop-test .taken, c .before .before .before .before .before .before .before .before .before .before .before .before .before .before .before .before .before .before .before .before .before .before .pre .1)) (c .before .before .before .before .before .before .before .before .before .before .before .before .before .before .before .read-row .ensures) (c .before .before .before .before .before .before .before .before .before .before .before .before .before .before .bucket-of .ensures) (c .before .before .before .before .add-row .ensures .0) (c .before .before .before .before .add-row .ensures .1),
+)
 
 same-length-4 : tie.Need-same-length-4 Inv-loop μ-loop
 same-length-4 c = c .before .loop .inv .0 .long
@@ -82,6 +99,8 @@ check-rows-spec =
     Inv-loop
     μ-loop
     loop-holds
+    read-row-requires
+    bucket-of-requires
     slice-reshare-prefix-row-answer
     slice-aggregate-row-answer
     row-answer-requires

@@ -1,11 +1,8 @@
 -- Each way out is one law on the answer for a row.
-use Rattle.terms.proofs.CheckLaws.{fitting, answer-5, answer-6, answer-7, answer-size}
+use Rattle.terms.proofs.CheckLaws.{fits-known, answer-5, answer-6, answer-7, answer-size}
 use borrow.Author.Needs.{needs}
 use Rattle.terms.proofs.sizes.row_answer.Statement.{statement}
 use Rattle.terms.proofs.sizes.row_answer.Tie as tie
-
-read-row-requires : tie.Need-read-row-requires
-read-row-requires c κs = search needs
 
 fits-requires : tie.Need-fits-requires
 fits-requires c κs = search needs
@@ -14,33 +11,32 @@ repeated-requires : tie.Need-repeated-requires
 repeated-requires c κs = search needs
 
 returns : tie.Need-returns
-returns c = answer-6 _ _ (c .before .before .before .before .before .before .before .before .before .args .sizes .now) _ _ (c .before .before .before .before .read-row .ensures) (c .before .before .before .fits2 .ensures) (c .before .before .if1 .taken) _ (c .before .repeated .ensures) (c .if2 .taken)
+returns c = answer-6 _ _ (c .before .before .before .before .before .before .before .before .args .sizes .now) _ _ (c .before .before .before .before .before .before .before .before .pre .3) (c .before .before .before .fits2 .ensures) (c .before .before .if1 .taken) _ (c .before .repeated .ensures) (c .if2 .taken)
 
 row-size-requires : tie.Need-row-size-requires
-row-size-requires c κs = (search needs, fitting _ _ (c .before .before .before .before .before .before .before .before .before .args .sizes .now) _ _ (c .before .before .before .before .read-row .ensures) (c .before .before .before .fits2 .ensures) (c .before .before .if1 .taken), search needs)
+row-size-requires c κs = fits-known _ (c .before .before .before .before .before .before .before .before .args .sizes .now) _ _ (c .before .before .before .fits2 .ensures) (c .before .before .if1 .taken) (c .before .before .before .before .before .before .before .before .pre .1)
 
 returns-2 : tie.Need-returns-2
-returns-2 c = answer-7 _ _ (c .before .before .before .before .before .before .before .before .before .before .before .args .sizes .now) _ _ (c .before .before .before .before .before .before .read-row .ensures) (c .before .before .before .before .before .fits2 .ensures) (c .before .before .before .before .if1 .taken) _ (c .before .before .before .repeated .ensures) (c .before .before .if2 .left) _ (c .before .row-size .ensures) (c .if3 .taken)
+returns-2 c = answer-7 _ _ (c .before .before .before .before .before .before .before .before .before .before .args .sizes .now) _ _ (c .before .before .before .before .before .before .before .before .before .before .pre .3) (c .before .before .before .before .before .fits2 .ensures) (c .before .before .before .before .if1 .taken) _ (c .before .before .before .repeated .ensures) (c .before .before .if2 .left) _ (c .before .row-size .ensures _ _ (c .before .before .before .before .before .before .before .before .before .before .pre .3)) (c .if3 .taken)
 
-cast-t12 : tie.Need-cast-t12
-cast-t12 c = search needs
+cast-t13 : tie.Need-cast-t13
+cast-t13 c = search needs
 
 returns-3 : tie.Need-returns-3
-returns-3 c = answer-size _ _ (c .before .before .before .before .before .before .before .before .before .before .before .args .sizes .now) _ _ (c .before .before .before .before .before .before .read-row .ensures) (c .before .before .before .before .before .fits2 .ensures) (c .before .before .before .before .if1 .taken) _ (c .before .before .before .repeated .ensures) (c .before .before .if2 .left) _ (c .before .row-size .ensures) (c .if3 .left)
+returns-3 c = answer-size _ _ (c .before .before .before .before .before .before .before .before .before .before .args .sizes .now) _ _ (c .before .before .before .before .before .before .before .before .before .before .pre .3) (c .before .before .before .before .before .fits2 .ensures) (c .before .before .before .before .if1 .taken) _ (c .before .before .before .repeated .ensures) (c .before .before .if2 .left) _ (c .before .row-size .ensures _ _ (c .before .before .before .before .before .before .before .before .before .before .pre .3)) (c .if3 .left)
 
 returns-4 : tie.Need-returns-4
-returns-4 c = answer-5 _ _ (c .before .before .before .before .before .before .before .args .sizes .now) _ _ (c .before .before .read-row .ensures) (c .before .fits2 .ensures) (c .if1 .left)
+returns-4 c = answer-5 _ _ (c .before .before .before .before .before .before .args .sizes .now) _ _ (c .before .before .before .before .before .before .pre .3) (c .before .fits2 .ensures) (c .if1 .left)
 
 pub row-answer-spec : {M : Type 1} → statement M
 row-answer-spec =
     tie.close
     (tie.spec
-    read-row-requires
     fits-requires
     repeated-requires
     returns
     row-size-requires
     returns-2
-    cast-t12
+    cast-t13
     returns-3
     returns-4)

@@ -1,71 +1,56 @@
--- The sum over the places passed is the definition's.
-use Prim.Native.Nat.{_-_, _+_}
-use Rattle.terms.specs.Tag.{arity}
-use Rattle.terms.specs.Rows.{word}
-use Rattle.terms.proofs.RowLaws.{Summed, sum-start, sum-next, sum-end, child-known}
-use Rattle.terms.proofs.GoodRows.{fits-good}
-use borrow.Author.Needs.{needs}
+-- The four places together are the definition's sum.
 use native.Mathlib.Omega.{arith}
+use Rattle.terms.proofs.GoodRows.{rowWord, fits-tag}
+use Rattle.terms.proofs.RowLaws.{child-known, size-is}
+use borrow.Author.Needs.{needs}
 use Rattle.terms.proofs.sizes.row_size.Statement.{statement}
 use Rattle.terms.proofs.sizes.row_size.Tie as tie
 
-abbrev Inv-loop : tie.InvT-loop
-Inv-loop rows n sizes count total₀ j₀ total j = Summed rows n sizes count total j
+arity-requires : tie.Need-arity-requires
+arity-requires c κs = fits-tag _ _ (c .before .pre) .1
 
-abbrev μ-loop : tie.MeasureT-loop
-μ-loop rows n sizes count total₀ j₀ total j = count + 1 - j
+child-size-requires : tie.Need-child-size-requires
+unfolding rowWord
+child-size-requires c κs = child-known (c .before .before .args .sizes .now) _ _ (c .before .before .pre) (c .arity .ensures .0) 1 (omega arith)
 
-word-requires : tie.Need-word-requires Inv-loop μ-loop
-word-requires c κs = search needs
+add-result : tie.Need-add-result
+add-result c = search needs
 
-arity-requires : tie.Need-arity-requires Inv-loop μ-loop
-arity-requires c κs = omega (arith, fits-good _ _ (c .before .before .before .pre .1))
+child-size-requires-2 : tie.Need-child-size-requires-2
+unfolding rowWord
+child-size-requires-2 c κs = child-known (c .before .before .before .args .sizes .now) _ _ (c .before .before .before .pre) (c .before .arity .ensures .0) 2 (omega arith)
 
-loop-holds : tie.Need-loop-holds Inv-loop μ-loop
-loop-holds c = sum-start _ _ _ _
+add-result-2 : tie.Need-add-result-2
+add-result-2 c = search needs
 
-word-requires-2 : tie.Need-word-requires-2 Inv-loop μ-loop
-word-requires-2 c κs = omega (arith, c .before .before .arity .ensures .1, c .before .loop .inv)
+child-size-requires-3 : tie.Need-child-size-requires-3
+unfolding rowWord
+child-size-requires-3 c κs = child-known (c .before .before .before .before .args .sizes .now) _ _ (c .before .before .before .before .pre) (c .before .before .arity .ensures .0) 3 (omega arith)
 
-mul-wide : tie.Need-mul-wide Inv-loop μ-loop
-mul-wide c = omega (arith, (child-known _ _ (c .before .before .before .before .before .before .before .args .sizes .now) (c .before .before .before .before .before .before .before .pre .1) (c .before .before .before .before .before .before .before .pre .2) _ _ _ _ (c .before .before .before .before .word .ensures .0) (c .before .before .before .arity .ensures .0) (c .before .before .loop .inv .from) (c .before .loop-test .taken) (c .word2 .ensures .0)), c .before .before .before .before .before .before .before .good)
+add-result-3 : tie.Need-add-result-3
+add-result-3 c = search needs
 
-shared-slice-read-wide : tie.Need-shared-slice-read-wide Inv-loop μ-loop
-shared-slice-read-wide c = (child-known _ _ (c .before .before .before .before .before .before .before .before .args .sizes .now) (c .before .before .before .before .before .before .before .before .pre .1) (c .before .before .before .before .before .before .before .before .pre .2) _ _ _ _ (c .before .before .before .before .before .word .ensures .0) (c .before .before .before .before .arity .ensures .0) (c .before .before .before .loop .inv .from) (c .before .before .loop-test .taken) (c .before .word2 .ensures .0))
+child-size-requires-4 : tie.Need-child-size-requires-4
+unfolding rowWord
+child-size-requires-4 c κs = child-known (c .before .before .before .before .before .args .sizes .now) _ _ (c .before .before .before .before .before .pre) (c .before .before .before .arity .ensures .0) 4 (omega arith)
 
-wide-requires : tie.Need-wide-requires Inv-loop μ-loop
-wide-requires c κs = search needs
+add-result-4 : tie.Need-add-result-4
+add-result-4 c = search needs
 
-add-total : tie.Need-add-total Inv-loop μ-loop
-add-total c = omega (arith, c .before .before .before .before .loop .inv, c .before .before .before .before .before .arity .ensures .1, c .before .shared-slice-known3 .given (c .before .before .word2 .result), c .wide .ensures)
-
-add-j : tie.Need-add-j Inv-loop μ-loop
-add-j c = omega (arith, c .before .before .before .before .loop .inv, c .before .before .before .before .before .arity .ensures .1)
-
-loop-less : tie.Need-loop-less Inv-loop μ-loop
-loop-less c = omega (arith, c .before .before .before .before .loop .inv)
-
-loop-again : tie.Need-loop-again Inv-loop μ-loop
-loop-again c = sum-next _ _ _ _ _ _ _ _ (c .before .before .before .before .loop .inv) (c .before .before .before .loop-test .taken) (c .before .before .word2 .ensures .0) (c .wide .ensures) (omega (arith, c .before .shared-slice-known3 .given (c .before .before .word2 .result)))
-
-returns : tie.Need-returns Inv-loop μ-loop
-returns c = sum-end _ _ _ _ _ _ _ (c .before .loop .inv) (c .loop-test .left) (c .before .before .before .word .ensures .0) (c .before .before .arity .ensures .0)
+returns : tie.Need-returns
+returns c = size-is (c .before .before .before .before .before .before .args .sizes .now) _ _ _ _ _ _ (c .before .before .before .before .arity .ensures .0, c .before .before .before .child-size .ensures .0, c .before .before .child-size2 .ensures .0, c .before .child-size3 .ensures .0, c .child-size4 .ensures .0)
 
 pub row-size-spec : {M : Type 1} → statement M
 row-size-spec =
     tie.close
     (tie.spec
-    Inv-loop
-    μ-loop
-    word-requires
     arity-requires
-    loop-holds
-    word-requires-2
-    mul-wide
-    shared-slice-read-wide
-    wide-requires
-    add-total
-    add-j
-    loop-less
-    loop-again
+    child-size-requires
+    add-result
+    child-size-requires-2
+    add-result-2
+    child-size-requires-3
+    add-result-3
+    child-size-requires-4
+    add-result-4
     returns)

@@ -1,9 +1,8 @@
 use mathlib.Core.Path.{refl}
-use native.Mathlib.Omega.{arith}
 use Rattle.terms.specs.RowIndex.{bucketOf}
 use borrow.Author.Needs.{needs}
-use Rattle.terms.proofs.row_index.bucket.Statement.{statement}
-use Rattle.terms.proofs.row_index.bucket.Tie as tie
+use Rattle.terms.proofs.row_index.bucket_of.Statement.{statement}
+use Rattle.terms.proofs.row_index.bucket_of.Tie as tie
 
 mul-mixed : tie.Need-mul-mixed
 mul-mixed c = search needs
@@ -34,10 +33,10 @@ add-mixed-4 c = search needs
 
 returns : tie.Need-returns
 unfolding bucketOf
-returns c = (refl, omega arith)
+returns c = refl
 
-pub bucket-spec : {M : Type 1} → statement M
-bucket-spec =
+pub bucket-of-spec : {M : Type 1} → statement M
+bucket-of-spec =
     tie.close
     (tie.spec
     mul-mixed
