@@ -37,16 +37,22 @@ mul-wide-2 : tie.Need-mul-wide-2 Inv-loop μ-loop
 mul-wide-2 c = omega (arith, c .before .before .before .loop .inv .within, c .before .before .before .before .before .before .before .before .before .pre .1)
 
 shared-slice-read-wide-2 : tie.Need-shared-slice-read-wide-2 Inv-loop μ-loop
-shared-slice-read-wide-2 c = omega (arith, c .before .before .before .before .loop .inv .within, c .before .before .before .loop-test .taken, c .before .before .before .before .before .before .before .before .before .before .pre .1, c .before .before .before .before .before .before .before .before .before .before .pre .3 .room)
+shared-slice-read-wide-2 c =
+    let start = c .before .before .before .before .before .before .before .before .before .before in
+    omega (arith, c .before .before .before .before .loop .inv .within, c .before .before .before .loop-test .taken, start .pre .1, start .pre .3 .room)
 
 wide-requires-2 : tie.Need-wide-requires-2 Inv-loop μ-loop
 wide-requires-2 c κs = search needs
 
 loop-less : tie.Need-loop-less Inv-loop μ-loop
-loop-less c = search-next _ _ _ _ (c .before .before .before .before .before .loop .inv) (c .before .before .before .before .loop-test .taken) (sym (c .before .before .before .holds .ensures) ∙ c .before .before .if1 .left) _ _ _ (c .before .before .before .before .before .before .before .before .before .before .before .pre .3) (c .wide2 .ensures) .1
+loop-less c =
+    let loop = c .before .before .before .before .before .loop in
+    search-next _ _ _ _ (loop .inv) (c .before .before .before .before .loop-test .taken) (sym (c .before .before .before .holds .ensures) ∙ c .before .before .if1 .left) _ _ _ (c .before .before .before .before .before .before .before .before .before .before .before .pre .3) (c .wide2 .ensures) .1
 
 loop-again : tie.Need-loop-again Inv-loop μ-loop
-loop-again c = search-next _ _ _ _ (c .before .before .before .before .before .loop .inv) (c .before .before .before .before .loop-test .taken) (sym (c .before .before .before .holds .ensures) ∙ c .before .before .if1 .left) _ _ _ (c .before .before .before .before .before .before .before .before .before .before .before .pre .3) (c .wide2 .ensures) .0
+loop-again c =
+    let loop = c .before .before .before .before .before .loop in
+    search-next _ _ _ _ (loop .inv) (c .before .before .before .before .loop-test .taken) (sym (c .before .before .before .holds .ensures) ∙ c .before .before .if1 .left) _ _ _ (c .before .before .before .before .before .before .before .before .before .before .before .pre .3) (c .wide2 .ensures) .0
 
 returns-2 : tie.Need-returns-2 Inv-loop μ-loop
 returns-2 c = search-done _ _ _ _ (c .before .loop .inv) (c .loop-test .left)

@@ -32,14 +32,16 @@ slice-aggregate-row-answer : tie.Need-slice-aggregate-row-answer Inv-loop μ-loo
 slice-aggregate-row-answer c = sym (length-take-le _ (c .before .before .before .before .loop .work) (omega (arith, c .before .before .before .before .loop .inv .0)))
 
 row-answer-requires : tie.Need-row-answer-requires Inv-loop μ-loop
-row-answer-requires c κs = (
-  omega (arith, c .before .before .before .before .before .before .before .before .before .before .before .pre .0, c .before .before .before .before .before .loop-test .taken),
-  length-take-le _ (c .before .before .before .before .before .before .loop .work) (omega (arith, c .before .before .before .before .before .before .loop .inv .0)),
-  omega (arith, c .before .before .before .before .before .before .loop .inv .0 .within, c .before .before .before .before .before .before .before .before .before .before .before .pre .1),
-  c .before .before .before .before .read-row .ensures,
-  c .before .before .before .bucket-of .ensures,
-  c .before .before .before .before .before .before .loop .inv .1,
-)
+row-answer-requires c κs =
+    let start = c .before .before .before .before .before .before .before .before .before .before .before in
+    let loop = c .before .before .before .before .before .before .loop in (
+      omega (arith, start .pre .0, c .before .before .before .before .before .loop-test .taken),
+      length-take-le _ (loop .work) (omega (arith, loop .inv .0)),
+      omega (arith, loop .inv .0 .within, start .pre .1),
+      c .before .before .before .before .read-row .ensures,
+      c .before .before .before .bucket-of .ensures,
+      loop .inv .1,
+    )
 
 enum-known-number : tie.Need-enum-known-number Inv-loop μ-loop
 enum-known-number c = search needs
@@ -54,7 +56,10 @@ same-length-3 : tie.Need-same-length-3 Inv-loop μ-loop
 same-length-3 c = c .before .before .before .before .before .before .before .before .before .before .loop .inv .1 .room ∙ sym (c .before .before .before .before .before .before .before .before .before .before .before .before .before .before .before .pre .3 .room)
 
 returns : tie.Need-returns Inv-loop μ-loop
-returns c = reached-fault _ _ _ (c .before .before .before .before .before .before .before .before .before .before .before .before .before .before .before .pre .2) (c .before .before .before .before .before .before .before .before .before .before .loop .work) _ (c .before .before .before .before .before .before .before .before .before .before .loop .inv .0) (c .before .before .before .before .before .before .before .before .before .loop-test .taken) _ (sym (c .before .number .given .1) ∙ c .before .before .before .row-answer .ensures)
+returns c =
+    let start = c .before .before .before .before .before .before .before .before .before .before .before .before .before .before .before in
+    let loop = c .before .before .before .before .before .before .before .before .before .before .loop in
+    reached-fault _ _ _ (start .pre .2) (loop .work) _ (loop .inv .0) (c .before .before .before .before .before .before .before .before .before .loop-test .taken) _ (sym (c .before .number .given .1) ∙ c .before .before .before .row-answer .ensures)
 
 enum-known-size : tie.Need-enum-known-size Inv-loop μ-loop
 enum-known-size c = search needs
@@ -66,19 +71,31 @@ slice-write-work : tie.Need-slice-write-work Inv-loop μ-loop
 slice-write-work c = omega (arith, c .before .before .before .before .before .before .before .before .before .before .loop .inv .0)
 
 add-row-requires : tie.Need-add-row-requires Inv-loop μ-loop
-add-row-requires c κs = (omega (arith, c .before .before .before .before .before .before .before .before .before .before .before .loop-test .taken, c .before .before .before .before .before .before .before .before .before .before .before .before .before .before .before .before .before .pre .1), bucket-below _ _ (c .before .before .before .before .before .before .before .before .before .bucket-of .ensures), c .before .before .before .before .before .before .before .before .before .before .before .before .loop .inv .1 .buckets, c .before .before .before .before .before .before .before .before .before .before .before .before .loop .inv .1 .room)
+add-row-requires c κs =
+    let start = c .before .before .before .before .before .before .before .before .before .before .before .before .before .before .before .before .before in
+    let loop = c .before .before .before .before .before .before .before .before .before .before .before .before .loop in
+    let bucket = c .before .before .before .before .before .before .before .before .before .bucket-of .ensures in
+    (omega (arith, c .before .before .before .before .before .before .before .before .before .before .before .loop-test .taken, start .pre .1), bucket-below _ _ bucket, loop .inv .1 .buckets, loop .inv .1 .room)
 
 add-k : tie.Need-add-k Inv-loop μ-loop
-add-k c = omega (arith, c .before .before .before .before .before .before .before .before .before .before .before .before .before .before .before .before .before .loop .inv .0 .within, c .before .before .before .before .before .before .before .before .before .before .before .before .before .before .before .before .before .before .before .before .before .before .pre .1)
+add-k c =
+    let start = c .before .before .before .before .before .before .before .before .before .before .before .before .before .before .before .before .before .before .before .before .before .before in
+    let loop = c .before .before .before .before .before .before .before .before .before .before .before .before .before .before .before .before .before .loop in
+    omega (arith, loop .inv .0 .within, start .pre .1)
 
 loop-less : tie.Need-loop-less Inv-loop μ-loop
 loop-less c = omega arith
 
 loop-again : tie.Need-loop-again Inv-loop μ-loop
-loop-again c = (
-  reached-next _ _ _ (c .before .before .before .before .before .before .before .before .before .before .before .before .before .before .before .before .before .before .before .before .before .before .pre .2) (c .before .before .before .before .before .before .before .before .before .before .before .before .before .before .before .before .before .loop .work) _ (c .before .before .before .before .before .before .before .before .before .before .before .before .before .before .before .before .before .loop .inv .0) (c .before .before .before .before .before .before .before .before .before .before .before .before .before .before .before .before .loop-test .taken) _ (sym (c .before .before .before .before .before .before .before .before .size .given .1) ∙ c .before .before .before .before .before .before .before .before .before .before .row-answer .ensures),
-  index-added _ _ _ _ _ _ _ _ (c .before .before .before .before .before .before .before .before .before .before .before .before .before .before .before .before .before .loop .inv .1) (omega (arith, c .before .before .before .before .before .before .before .before .before .before .before .before .before .before .before .before .loop-test .taken, c .before .before .before .before .before .before .before .before .before .before .before .before .before .before .before .before .before .before .before .before .before .before .pre .1)) (c .before .before .before .before .before .before .before .before .before .before .before .before .before .before .before .read-row .ensures) (c .before .before .before .before .before .before .before .before .before .before .before .before .before .before .bucket-of .ensures) (c .before .before .before .before .add-row .ensures .0) (c .before .before .before .before .add-row .ensures .1),
-)
+loop-again c =
+    let start = c .before .before .before .before .before .before .before .before .before .before .before .before .before .before .before .before .before .before .before .before .before .before in
+    let loop = c .before .before .before .before .before .before .before .before .before .before .before .before .before .before .before .before .before .loop in
+    let below = c .before .before .before .before .before .before .before .before .before .before .before .before .before .before .before .before .loop-test .taken in
+    let bucket = c .before .before .before .before .before .before .before .before .before .before .before .before .before .before .bucket-of .ensures in
+    let added = c .before .before .before .before .add-row .ensures in (
+      reached-next _ _ _ (start .pre .2) (loop .work) _ (loop .inv .0) below _ (sym (c .before .before .before .before .before .before .before .before .size .given .1) ∙ c .before .before .before .before .before .before .before .before .before .before .row-answer .ensures),
+      index-added _ _ _ _ _ _ _ _ (loop .inv .1) (omega (arith, below, start .pre .1)) (c .before .before .before .before .before .before .before .before .before .before .before .before .before .before .before .read-row .ensures) bucket (added .0) (added .1),
+    )
 
 same-length-4 : tie.Need-same-length-4 Inv-loop μ-loop
 same-length-4 c = c .before .loop .inv .0 .long

@@ -11,22 +11,34 @@ repeated-requires : tie.Need-repeated-requires
 repeated-requires c κs = search needs
 
 returns : tie.Need-returns
-returns c = answer-6 _ _ (c .before .before .before .before .before .before .before .before .args .sizes .now) _ _ (c .before .before .before .before .before .before .before .before .pre .3) (c .before .before .before .fits2 .ensures) (c .before .before .if1 .taken) _ (c .before .repeated .ensures) (c .if2 .taken)
+returns c =
+    let start = c .before .before .before .before .before .before .before .before in
+    answer-6 _ _ (start .args .sizes .now) _ _ (start .pre .3) (c .before .before .before .fits2 .ensures) (c .before .before .if1 .taken) _ (c .before .repeated .ensures) (c .if2 .taken)
 
 row-size-requires : tie.Need-row-size-requires
-row-size-requires c κs = fits-known _ (c .before .before .before .before .before .before .before .before .args .sizes .now) _ _ (c .before .before .before .fits2 .ensures) (c .before .before .if1 .taken) (c .before .before .before .before .before .before .before .before .pre .1)
+row-size-requires c κs =
+    let start = c .before .before .before .before .before .before .before .before in
+    fits-known _ (start .args .sizes .now) _ _ (c .before .before .before .fits2 .ensures) (c .before .before .if1 .taken) (start .pre .1)
 
 returns-2 : tie.Need-returns-2
-returns-2 c = answer-7 _ _ (c .before .before .before .before .before .before .before .before .before .before .args .sizes .now) _ _ (c .before .before .before .before .before .before .before .before .before .before .pre .3) (c .before .before .before .before .before .fits2 .ensures) (c .before .before .before .before .if1 .taken) _ (c .before .before .before .repeated .ensures) (c .before .before .if2 .left) _ (c .before .row-size .ensures _ _ (c .before .before .before .before .before .before .before .before .before .before .pre .3)) (c .if3 .taken)
+returns-2 c =
+    let start = c .before .before .before .before .before .before .before .before .before .before in
+    let size = c .before .row-size .ensures _ _ (start .pre .3) in
+    answer-7 _ _ (start .args .sizes .now) _ _ (start .pre .3) (c .before .before .before .before .before .fits2 .ensures) (c .before .before .before .before .if1 .taken) _ (c .before .before .before .repeated .ensures) (c .before .before .if2 .left) _ size (c .if3 .taken)
 
 cast-t13 : tie.Need-cast-t13
 cast-t13 c = search needs
 
 returns-3 : tie.Need-returns-3
-returns-3 c = answer-size _ _ (c .before .before .before .before .before .before .before .before .before .before .args .sizes .now) _ _ (c .before .before .before .before .before .before .before .before .before .before .pre .3) (c .before .before .before .before .before .fits2 .ensures) (c .before .before .before .before .if1 .taken) _ (c .before .before .before .repeated .ensures) (c .before .before .if2 .left) _ (c .before .row-size .ensures _ _ (c .before .before .before .before .before .before .before .before .before .before .pre .3)) (c .if3 .left)
+returns-3 c =
+    let start = c .before .before .before .before .before .before .before .before .before .before in
+    let size = c .before .row-size .ensures _ _ (start .pre .3) in
+    answer-size _ _ (start .args .sizes .now) _ _ (start .pre .3) (c .before .before .before .before .before .fits2 .ensures) (c .before .before .before .before .if1 .taken) _ (c .before .before .before .repeated .ensures) (c .before .before .if2 .left) _ size (c .if3 .left)
 
 returns-4 : tie.Need-returns-4
-returns-4 c = answer-5 _ _ (c .before .before .before .before .before .before .args .sizes .now) _ _ (c .before .before .before .before .before .before .pre .3) (c .before .fits2 .ensures) (c .if1 .left)
+returns-4 c =
+    let start = c .before .before .before .before .before .before in
+    answer-5 _ _ (start .args .sizes .now) _ _ (start .pre .3) (c .before .fits2 .ensures) (c .if1 .left)
 
 pub row-answer-spec : {M : Type 1} → statement M
 row-answer-spec =

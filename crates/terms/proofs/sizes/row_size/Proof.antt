@@ -38,7 +38,9 @@ add-result-4 : tie.Need-add-result-4
 add-result-4 c = search needs
 
 returns : tie.Need-returns
-returns c = size-is (c .before .before .before .before .before .before .args .sizes .now) _ _ _ _ _ _ (c .before .before .before .before .arity .ensures .0, c .before .before .before .child-size .ensures .0, c .before .before .child-size2 .ensures .0, c .before .child-size3 .ensures .0, c .child-size4 .ensures .0)
+returns c =
+    let sizes = c .before .before .before .before .before .before .args .sizes .now in
+    size-is sizes _ _ _ _ _ _ (c .before .before .before .before .arity .ensures .0, c .before .before .before .child-size .ensures .0, c .before .before .child-size2 .ensures .0, c .before .child-size3 .ensures .0, c .child-size4 .ensures .0)
 
 pub row-size-spec : {M : Type 1} → statement M
 row-size-spec =
