@@ -8,12 +8,12 @@ use Rattle.sheets.specs.declared.admission.Admission.the-variants.{Accepted, Re
 use Rattle.sheets.specs.declared.withdrawal.Withdrawal.{Withdrawal}
 use Rattle.sheets.specs.declared.withdrawal.Withdrawal.the-variants.{Written}
 use Rattle.sheets.specs.Admission.{admitOf}
-use Rattle.sheets.specs.Withdrawal.{withdrawOf, WithdrawalMeans, missing, used, short, written}
+use Rattle.sheets.specs.Withdrawal.{withdrawOf, AdmittedWithdrawalMeans, missing, used, short, written}
 use Rattle.sheets.proofs.WithdrawalLaws.{withdraw-refused, withdrawn-is}
 use Rattle.answers.specs.Room.{Within}
 
 module _ (bytes : List ℕ) (n work room : ℕ) where
-  on-means : {T C L : ℕ} {a : Withdrawal} → WithdrawalMeans bytes T C L n room a → Within room a
+  on-means : {T C L : ℕ} {a : Withdrawal} → AdmittedWithdrawalMeans bytes T C L n room a → Within room a
   unfolding Within
   on-means (missing h) = tt
   on-means (used h u) = tt

@@ -1,5 +1,5 @@
--- Answers as lines of text: document 01, "The admitting program reads standard input and prints `ok` with T, C and L, or `refused`
--- with number and place, fields parted by one space, then a newline."
+-- Answers as lines of text: document 01, "The admitting program reads standard input and prints `ok` with T, C and L,
+-- or `refused` with number and place, fields parted by one space, then a newline."
 use mathlib.Core.Path.{_≡_}
 use mathlib.Core.Bool.{cond}
 use mathlib.Core.List.{List, [], _∷_, _++_}
@@ -96,7 +96,8 @@ unfoldable pub dateText : DateReading → List ℕ
 dateText (Spelled date) = dayText (dayNumberOf date)
 dateText Unreadable = []
 
--- bytes stand behind the first at bytes of a buffer, whose length is kept, and end at the given place; the bytes beyond are as they were
+-- bytes stand behind the first at bytes of a buffer, whose length is kept, and end at the given place; the bytes beyond
+-- are as they were
 pub record Put (before : List ℕ) (at : ℕ) (bytes after : List ℕ) (stop : ℕ) : Type 0 where
   pub whole : length after ≡ length before
   pub place : stop ≡ at + length bytes

@@ -20,7 +20,7 @@ ghost use lib.ListN.{length};
 ghost use Rattle.io.specs.Counts.{Counts};
 ghost use Rattle.sheets.specs.Admission.{admitOf};
 ghost use Rattle.sheets.specs.Finding.{findOf};
-ghost use Rattle.sheets.specs.Withdrawal.{withdrawOf, outAfter, Withdrawn};
+ghost use Rattle.sheets.specs.Withdrawal.{withdrawOf, outAfter, KeepsTheOthers};
 ghost use Rattle.sheets.specs.Normality.{normalityOf};
 ghost use Rattle.answers.specs.Text.{admissionText, foundText, withdrawalText, normalityText};
 ghost use Rattle.answers.specs.Text.{windowText, dateText, AtStart};
@@ -60,7 +60,7 @@ pub fn withdrawal_reply(
 ) -> WithdrawalReply
     ensures answer { λ r. ⌜ r .answer ≡ withdrawOf (now (sheet .entry)) number 3072 (length (now (out .entry))) ⌝ }
     ensures written { λ _. ⌜ now (out .exit) ≡ outAfter (now (sheet .entry)) number 3072 (now (out .entry)) ⌝ }
-    ensures kept { λ r. ⌜ Withdrawn (now (sheet .entry)) number (now (out .exit)) (r .answer) ⌝ }
+    ensures kept { λ r. ⌜ KeepsTheOthers (now (sheet .entry)) number (now (out .exit)) (r .answer) ⌝ }
     ensures within { λ r. ⌜ Within (length (now (out .entry))) (r .answer) ⌝ }
     ensures count { λ r. ⌜ Counts (r .count) (now (text .exit)) ⌝ }
     ensures text { λ r. ⌜ AtStart (withdrawalText (r .answer)) (now (text .entry)) (now (text .exit)) (r .count) ⌝ }

@@ -1,5 +1,5 @@
--- A well-formed context table for a list of non-empty contexts in which each stands once and its beginnings behind it: row n + 1 is the
--- context numbered n, and 0 is the empty one.
+-- A well-formed context table for a list of non-empty contexts in which each stands once and its beginnings behind it:
+-- row n + 1 is the context numbered n, and 0 is the empty one.
 -- Assumes nothing.
 use mathlib.Core.Path.{_≡_, refl, sym, _∙_, ap, ap₂}
 use mathlib.Core.List.{List, [], _∷_, List·Memᴰ·head as here, List·Memᴰ·not-nil, List·Memᴰ·eq-of-singleton, nil≢cons}

@@ -7,7 +7,7 @@ use Prim.Native.Nat.{ℕ, _<_}
 use native.Mathlib.Omega.{arith}
 use lib.ListN.{length, take}
 use lib.Seq.{getD-take, length-take-le}
-use Rattle.terms.specs.Table.{AllBelow}
+use Rattle.terms.specs.Lists.{AllBelow}
 use Rattle.rules.specs.Judgment.{Judgment, wf}
 use Rattle.rules.specs.Instance.{Instance}
 use Rattle.derivations.specs.Lists.{_∈_}

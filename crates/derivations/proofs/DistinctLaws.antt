@@ -1,5 +1,5 @@
--- The list without repetitions has the same elements, each once; and that a list has at most n different elements is what a reader
--- thinks: some list of at most n elements has them all.
+-- The list without repetitions has the same elements, each once; and that a list has at most n different elements is
+-- what a reader thinks: some list of at most n elements has them all.
 -- Assumes nothing.
 use mathlib.Core.Path.{_≡_, refl, sym, _∙_, ap}
 use mathlib.Core.Logic.{_↔_, ⊎-elim}

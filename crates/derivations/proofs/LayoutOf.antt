@@ -1,4 +1,5 @@
--- A sheet from its words: given those of the terms, the contexts and the lines, the bytes are laid out and each part is read back.
+-- A sheet from its words: given those of the terms, the contexts and the lines, the bytes are laid out and each part is
+-- read back.
 -- Assumes nothing.
 use mathlib.Core.Path.{_≡_, _∙_, ap}
 use mathlib.Core.List.{List, [], _∷_}
@@ -7,7 +8,7 @@ use native.Mathlib.Omega.{arith}
 use lib.ListN.{length, getD}
 use Rattle.terms.specs.Words.{wordAt}
 use Rattle.sheets.specs.Layout.{contextsIn, linesIn, trailerWord, trailerOf, toLines, toContexts, toTerms}
-use Rattle.sheets.specs.Good.{trailerFor, LaidOut}
+use Rattle.sheets.specs.GoodLayout.{trailerFor, LaidOut}
 use Rattle.sheets.specs.Accepted.{Bytes}
 use Rattle.sheets.proofs.WrittenLaws.{written, written-length, written-bytes, word-written, word-drop}
 use Rattle.derivations.proofs.BytesOf.{follow, follow-first, follow-then, follow-below}
@@ -67,9 +68,9 @@ module _ (T C L : ℕ) (t c l : ℕ → ℕ) where
         contexts = trailer-word 1 (omega arith) i;
         lines = trailer-word 2 (omega arith) i;
         edition = trailer-word 3 (omega arith) i;
-        first = trailer-word 4 (omega arith) i;
-        second = trailer-word 5 (omega arith) i;
-        third = trailer-word 6 (omega arith) i;
+        «to_terms» = trailer-word 4 (omega arith) i;
+        «to_contexts» = trailer-word 5 (omega arith) i;
+        «to_lines» = trailer-word 6 (omega arith) i;
         mark = trailer-word 7 (omega arith) i;
       }
 

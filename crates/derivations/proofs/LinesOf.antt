@@ -1,28 +1,34 @@
--- The line of a judgment, by the numbers of its terms, of its context and of its premises' places: it keeps the layout and states the
--- judgment again.
+-- The line of a judgment, by the numbers of its terms, of its context and of its premises' places: it keeps the layout
+-- and states the judgment again.
 -- Assumes nothing.
 use mathlib.Core.Path.{_≡_, refl, sym, _∙_, ap, subst}
+use mathlib.Core.Logic.{inl, inr}
+use mathlib.Core.Bool.{true, false}
 use mathlib.Core.List.{List, [], _∷_, map, List·Memᴰ·head as here, List·Memᴰ·tail as there}
 use Prim.Native.Nat.{ℕ, zero, suc, _≤_, _<_}
-use native.Mathlib.Decide.{decLe, decLt}
+use native.Mathlib.Decide.{decLt}
 use native.Mathlib.Omega.{arith}
 use lib.ListN.{length, getD, take, List·getD-eq-default}
-use Rattle.terms.specs.Term.{Term}
+use Rattle.terms.specs.Term.{Term, zer}
 use Rattle.terms.specs.Rows.{term}
-use Rattle.terms.specs.Table.{AllBelow}
-use Rattle.rules.specs.Judgment.{Context, Judgment, wf, typed, equal, sub, form, contextOf, term?}
+use Rattle.terms.specs.Lists.{AllBelow}
+use Rattle.terms.proofs.Tests.{either}
+use Rattle.rules.specs.Judgment.{Context, Judgment, wf, typed, equal, sub, form, contextOf, s1, s2, s3, term?}
+use Rattle.rules.specs.Subjects.{lastForm, subjectUse, usesSubject, subjectsOf}
 use Rattle.rules.specs.Instance.{Instance}
 use Rattle.rules.specs.RuleTable.{premiseCount}
 use Rattle.rules.specs.Contexts.{context}
 use Rattle.rules.specs.Stated.{stated}
+use Rattle.rules.proofs.SubjectLaws.{unused-past, by-place, used-small}
 use Rattle.rules.proofs.TableFitsLaws.{row-fits}
 use Rattle.rules.proofs.TableLaws.{row-agrees}
+use Rattle.rules.proofs.RuleTableEntries.{form-small}
 use Rattle.sheets.specs.declared.lines.Line.{Line}
 use Rattle.sheets.specs.Lines.{lineWord, lineOf, judgmentOf, premisesOf, citedBy}
-use Rattle.sheets.specs.Good.{LineOk}
+use Rattle.sheets.specs.GoodLines.{LineOk}
 use Rattle.derivations.specs.Lists.{_∈_}
 use Rattle.derivations.specs.Fits.{subjects}
-use Rattle.derivations.proofs.ListLaws.{below-at}
+use Rattle.derivations.proofs.ListLaws.{in-selected, below-at}
 use Rattle.derivations.proofs.Numbering.{number, number-below}
 use Rattle.derivations.proofs.ContextTableOf.{contextNumber, Listed, context-number-most}
 
@@ -49,61 +55,40 @@ line-read lines n l h =
 -- a line that keeps the layout has small words
 module _ {l : Line} {n T C : ℕ} (ok : LineOk l n T C) (few : n ≤ 1024) (terms : T ≤ 3072) (contexts : C ≤ 256) where
   premise-small : (j : ℕ) → j < 4 → getD (premisesOf l) j 0 < 65536
-  premise-small j h = at (decLt j (premiseCount (l .rule)))
-    where
-      at : Dec (j < premiseCount (l .rule)) → getD (premisesOf l) j 0 < 65536
-      at (yes k) = omega (arith, ok .earlier j h k)
-      at (no k) = omega (arith, ok .unusedPremise j h (omega arith))
+  premise-small j h =
+      elim (decLt j (premiseCount (l .rule))) [
+        | yes u ↦ omega (arith, ok .earlier j h u)
+        | no u ↦ omega (arith, ok .unusedPremise j h (omega arith))
+      ]
 
-  first-small : Dec (1 ≤ judgmentOf l .form) → judgmentOf l .s1 < 65536
-  unfolding judgmentOf
-  first-small (yes k) = omega (arith, ok .numbers .first k)
-  first-small (no k) = omega (arith, ok .unusedFirst (omega arith))
-
-  second-small : Dec (2 ≤ judgmentOf l .form) → judgmentOf l .s2 < 65536
-  unfolding judgmentOf
-  second-small (yes k) = omega (arith, ok .numbers .second k)
-  second-small (no k) = omega (arith, ok .unusedSecond (omega arith))
-
-  third-small : Dec (1 ≤ judgmentOf l .form) → Dec (judgmentOf l .form ≤ 2) → judgmentOf l .s3 < 65536
-  unfolding judgmentOf
-  third-small (yes k) (yes m) = omega (arith, ok .numbers .third k m)
-  third-small (yes k) (no m) = omega (arith, ok .unusedThird (λ a c. m c))
-  third-small (no k) m = omega (arith, ok .unusedThird (λ a c. k a))
+  subject-small : (k : ℕ) → getD (subjectsOf (judgmentOf l)) k 0 < 65536
+  subject-small k =
+      elim (either (usesSubject (judgmentOf l .form) k)) [
+        | inl u ↦ omega (arith, ok .numbers .subjects k u)
+        | inr u ↦ omega (arith, ok .unusedSubject k u)
+      ]
 
   pub line-small : (k : ℕ) → column l k < 65536
-  unfolding column judgmentOf premisesOf
+  unfolding column judgmentOf subjectsOf premisesOf
   line-small zero = omega (arith, ok .numbers .form)
   line-small (suc zero) = omega (arith, ok .rule .1)
   line-small (suc (suc zero)) = omega (arith, ok .numbers .within)
-  line-small (suc (suc (suc zero))) = first-small (decLe 1 (l .form))
-  line-small (suc (suc (suc (suc zero)))) = second-small (decLe 2 (l .form))
-  line-small (suc (suc (suc (suc (suc zero))))) = third-small (decLe 1 (l .form)) (decLe (l .form) 2)
+  line-small (suc (suc (suc zero))) = subject-small 0
+  line-small (suc (suc (suc (suc zero)))) = subject-small 1
+  line-small (suc (suc (suc (suc (suc zero))))) = subject-small 2
   line-small (suc (suc (suc (suc (suc (suc zero)))))) = premise-small 0 (omega arith)
   line-small (suc (suc (suc (suc (suc (suc (suc zero))))))) = premise-small 1 (omega arith)
   line-small (suc (suc (suc (suc (suc (suc (suc (suc zero)))))))) = premise-small 2 (omega arith)
   line-small (suc (suc (suc (suc (suc (suc (suc (suc (suc zero))))))))) = premise-small 3 (omega arith)
   line-small (suc (suc (suc (suc (suc (suc (suc (suc (suc (suc k)))))))))) = omega arith
 
--- the rows of the subjects that a form uses, 0 where it uses none
-module _ (D : List Term) where
-  firstRow : Judgment → ℕ
-  firstRow (wf G) = 0
-  firstRow (typed G a A) = number term? D a
-  firstRow (equal G a b A) = number term? D a
-  firstRow (sub G A B) = number term? D A
+-- the subject at a place
+abbrev subjectAt : Judgment → ℕ → Term
+subjectAt j k = getD (s1 j ∷ s2 j ∷ s3 j ∷ []) k zer
 
-  secondRow : Judgment → ℕ
-  secondRow (wf G) = 0
-  secondRow (typed G a A) = 0
-  secondRow (equal G a b A) = number term? D b
-  secondRow (sub G A B) = number term? D B
-
-  thirdRow : Judgment → ℕ
-  thirdRow (wf G) = 0
-  thirdRow (typed G a A) = number term? D A
-  thirdRow (equal G a b A) = number term? D A
-  thirdRow (sub G A B) = 0
+-- its row, 0 where the form does not use it
+subjectRow : List Term → Judgment → ℕ → ℕ
+subjectRow D j k = elim (usesSubject (form j) k) [ true ↦ number term? D (subjectAt j k) | false ↦ 0 ]
 
 -- the line
 pub lineFor : List Term → List Context → Judgment → ℕ → List ℕ → Line
@@ -112,66 +97,38 @@ lineFor D E j rule places =
       form = form j;
       rule = rule;
       context = contextNumber E (contextOf j);
-      s1 = firstRow D j;
-      s2 = secondRow D j;
-      s3 = thirdRow D j;
+      s1 = subjectRow D j 0;
+      s2 = subjectRow D j 1;
+      s3 = subjectRow D j 2;
       p0 = getD places 0 0;
       p1 = getD places 1 0;
       p2 = getD places 2 0;
       p3 = getD places 3 0;
     }
 
-form-most : (j : Judgment) → form j ≤ 3
-unfolding form
-form-most (wf G) = omega arith
-form-most (typed G a A) = omega arith
-form-most (equal G a b A) = omega arith
-form-most (sub G A B) = omega arith
-
-first-unused : (D : List Term) (j : Judgment) → form j < 1 → firstRow D j ≡ 0
-unfolding form firstRow
-first-unused D (wf G) h = refl
-first-unused D (typed G a A) h = absurd (omega arith)
-first-unused D (equal G a b A) h = absurd (omega arith)
-first-unused D (sub G A B) h = absurd (omega arith)
-
-second-unused : (D : List Term) (j : Judgment) → form j < 2 → secondRow D j ≡ 0
-unfolding form secondRow
-second-unused D (wf G) h = refl
-second-unused D (typed G a A) h = refl
-second-unused D (equal G a b A) h = absurd (omega arith)
-second-unused D (sub G A B) h = absurd (omega arith)
-
-third-unused : (D : List Term) (j : Judgment) → (1 ≤ form j → form j ≤ 2 → ⊥) → thirdRow D j ≡ 0
-unfolding form thirdRow
-third-unused D (wf G) h = refl
-third-unused D (typed G a A) h = absurd (h (omega arith) (omega arith))
-third-unused D (equal G a b A) h = absurd (h (omega arith) (omega arith))
-third-unused D (sub G A B) h = refl
-
 abbrev pub SubjectsIn : List Term → Judgment → Type 0
 SubjectsIn D j = (t : Term) → t ∈ subjects j → t ∈ D
 
-first-below : (D : List Term) (j : Judgment) → SubjectsIn D j → 1 ≤ form j → firstRow D j < length D
-unfolding form firstRow subjects
-first-below D (wf G) s h = absurd (omega arith)
-first-below D (typed G a A) s h = number-below term? D a (s a (here refl))
-first-below D (equal G a b A) s h = number-below term? D a (s a (here refl))
-first-below D (sub G A B) s h = number-below term? D A (s A (here refl))
+in-subjects : (j : Judgment) (k : ℕ) → usesSubject (form j) k ≡ true → subjectAt j k ∈ subjects j
+unfolding subjects usesSubject
+in-subjects j k u = in-selected (subjectUse (form j)) (s1 j ∷ s2 j ∷ s3 j ∷ []) k zer (used-small (form j) k u) u
 
-second-below : (D : List Term) (j : Judgment) → SubjectsIn D j → 2 ≤ form j → secondRow D j < length D
-unfolding form secondRow subjects
-second-below D (wf G) s h = absurd (omega arith)
-second-below D (typed G a A) s h = absurd (omega arith)
-second-below D (equal G a b A) s h = number-below term? D b (s b (there (here refl)))
-second-below D (sub G A B) s h = number-below term? D B (s B (there (here refl)))
+module _ (D : List Term) (j : Judgment) where
+  row-unused : (k : ℕ) → usesSubject (form j) k ≡ false → subjectRow D j k ≡ 0
+  unfolding subjectRow
+  row-unused k u = rw (u, subjectRow)
 
-third-below : (D : List Term) (j : Judgment) → SubjectsIn D j → 1 ≤ form j → form j ≤ 2 → thirdRow D j < length D
-unfolding form thirdRow subjects
-third-below D (wf G) s h k = absurd (omega arith)
-third-below D (typed G a A) s h k = number-below term? D A (s A (there (here refl)))
-third-below D (equal G a b A) s h k = number-below term? D A (s A (there (there (here refl))))
-third-below D (sub G A B) s h k = absurd (omega arith)
+  row-below : SubjectsIn D j → (k : ℕ) → usesSubject (form j) k ≡ true → subjectRow D j k < length D
+  unfolding subjectRow
+  row-below s k u = rw (u, subjectRow) (number-below term? D (subjectAt j k) (s (subjectAt j k) (in-subjects j k u)))
+
+  abbrev rows : List ℕ
+  rows = subjectRow D j 0 ∷ subjectRow D j 1 ∷ subjectRow D j 2 ∷ []
+
+  row-at : (k : ℕ) → subjectRow D j k ≡ getD rows k 0
+  row-at =
+      by-place (λ k. subjectRow D j k ≡ getD rows k 0) refl refl refl
+      (λ k. row-unused (suc (suc (suc k))) (unused-past (form j) k))
 
 four-places : (places : List ℕ) (j : ℕ) → j < 4 → getD (getD places 0 0 ∷ getD places 1 0 ∷ getD places 2 0 ∷ getD places 3 0 ∷ []) j 0 ≡ getD places j 0
 four-places places zero h = refl
@@ -194,7 +151,7 @@ module _ (D : List Term) (E : List Context) {rule : ℕ} {ps : List Judgment} {j
   count-is = sym (row-fits i .count) ∙ same
 
   count-most : length places ≤ 4
-  count-most = let f = row-fits i .isRule in omega (arith, count-is, row-agrees rule (f .0) (f .1) .count)
+  count-most = omega (arith, count-is, row-agrees rule (row-fits i .known) .count)
 
   cited-is : citedBy (lineFor D E j rule places) ≡ places
   unfolding citedBy premisesOf lineFor
@@ -206,22 +163,19 @@ module _ (D : List Term) (E : List Context) {rule : ℕ} {ps : List Judgment} {j
   line-instance f c h = subst (λ l. Instance rule (map f l) c) (sym cited-is) h
 
   pub line-ok : (n : ℕ) → AllBelow n places → SubjectsIn D j → Listed E (contextOf j) → LineOk (lineFor D E j rule places) n (length D) (length E)
-  unfolding lineFor judgmentOf premisesOf
+  unfolding lineFor judgmentOf subjectsOf premisesOf
   line-ok n b s c =
       let f = row-fits i in
+      let concludes = f .concludes ∙ row-agrees rule (f .known) .concludes in
       record {
-        rule = f .isRule;
-        form = f .concludes ∙ row-agrees rule (f .isRule .0) (f .isRule .1) .concludes;
+        rule = f .known;
+        form = concludes;
         numbers = record {
-          form = form-most j;
+          form = subst (λ m. m ≤ lastForm) (sym concludes) (form-small rule _ (f .known) refl);
           within = context-number-most E (contextOf j) c;
-          first = first-below D j s;
-          second = second-below D j s;
-          third = third-below D j s;
+          subjects = λ k u. subst (λ r. r < length D) (row-at D j k) (row-below D j s k u);
         };
-        unusedFirst = first-unused D j;
-        unusedSecond = second-unused D j;
-        unusedThird = third-unused D j;
+        unusedSubject = λ k u. sym (row-at D j k) ∙ row-unused D j k u;
         earlier = λ k h l. subst (λ p. p < n) (sym (four-places places k h)) (below-at n places b k (omega (arith, count-is)));
         unusedPremise = λ k h l. four-places places k h ∙ List·getD-eq-default places 0 {n = k} (omega (arith, count-is));
       }
@@ -230,7 +184,7 @@ module _ (D : List Term) (E : List Context) {rule : ℕ} {ps : List Judgment} {j
 pub line-states : (D : List Term) (E : List Context) (b cs : List ℕ) (j : Judgment) (rule : ℕ) (places : List ℕ)
     → ((t : Term) → t ∈ subjects j → term b (number term? D t) ≡ t) → context b cs (contextNumber E (contextOf j)) ≡ contextOf j
     → stated b cs (judgmentOf (lineFor D E j rule places)) ≡ j
-unfolding stated judgmentOf lineFor form contextOf firstRow secondRow thirdRow subjects
+unfolding stated judgmentOf lineFor form contextOf subjectRow subjects usesSubject
 line-states D E b cs (wf G) rule places h c = λ i. wf (c i)
 line-states D E b cs (typed G a A) rule places h c = λ i. typed (c i) (h a (here refl) i) (h A (there (here refl)) i)
 line-states D E b cs (equal G a e A) rule places h c = λ i. equal (c i) (h a (here refl) i) (h e (there (here refl)) i) (h A (there (there (here refl))) i)

@@ -1,13 +1,15 @@
--- Laws of lists: the values of a function in order, joined lists, members by place, and numbers below a bound.
+-- Laws of lists: the values of a function in order, joined lists, members by place, marked members, and numbers below a
+-- bound.
 -- Assumes nothing.
-use mathlib.Core.Path.{_≡_, refl, ap, ap₂, subst}
+use mathlib.Core.Path.{_≡_, refl, sym, ap, ap₂, subst}
 use mathlib.Core.Logic.{⊎-elim}
+use mathlib.Core.Bool.{Bool, true, false}
 use mathlib.Core.List.{List, [], _∷_, map, flatMap, List·Memᴰ·head as here, List·Memᴰ·tail as there, List·Memᴰ·not-nil, List·Memᴰ·cases-cons, List·Memᴰ·append-cases, Memᴰ·append-left, Memᴰ·append-right}
 use Prim.Native.Nat.{ℕ, zero, suc, _<_}
 use native.Mathlib.Omega.{arith}
 use lib.ListN.{length, getD}
-use Rattle.terms.specs.Table.{AllBelow}
-use Rattle.sheets.specs.Accepted.{listed}
+use Rattle.terms.specs.Lists.{AllBelow, listed, selected}
+use Rattle.terms.proofs.Tests.{never}
 use Rattle.derivations.specs.Lists.{_∈_}
 
 module _ {A : Type 0} where
@@ -51,6 +53,26 @@ module _ {A : Type 0} where
     where
       later : Among (λ i. getD l i d) (length l) x → Among (λ i. getD (y ∷ l) i d) (suc (length l)) x
       later a = (suc (a .0), omega (arith, a .1), a .2)
+
+  -- the marked elements are those at the marked places
+  pub in-selected : (used : List Bool) (l : List A) (k : ℕ) (d : A) → k < length l → getD used k false ≡ true
+      → getD l k d ∈ selected used l
+  unfolding selected
+  in-selected [] l k d h u = never u refl
+  in-selected (b ∷ used) [] k d h u = absurd (omega arith)
+  in-selected (true ∷ used) (x ∷ l) zero d h u = here refl
+  in-selected (true ∷ used) (x ∷ l) (suc k) d h u = there (in-selected used l k d (omega arith) u)
+  in-selected (false ∷ used) (x ∷ l) zero d h u = never u refl
+  in-selected (false ∷ used) (x ∷ l) (suc k) d h u = in-selected used l k d (omega arith) u
+
+  pub of-selected : (P : A → Type 0) (used : List Bool) (l : List A) (d : A)
+      → ((k : ℕ) → getD used k false ≡ true → P (getD l k d)) → {x : A} → x ∈ selected used l → P x
+  unfolding selected
+  of-selected P [] l d h m = absurd (List·Memᴰ·not-nil m)
+  of-selected P (b ∷ used) [] d h m = absurd (List·Memᴰ·not-nil m)
+  of-selected P (true ∷ used) (y ∷ l) d h m =
+      ⊎-elim (λ e. subst P (sym e) (h 0 refl)) (λ k. of-selected P used l d (λ i. h (suc i)) k) (List·Memᴰ·cases-cons m)
+  of-selected P (false ∷ used) (y ∷ l) d h m = of-selected P used l d (λ i. h (suc i)) m
 
 module _ {A B : Type 0} (f : A → List B) where
   pub in-flat : {y : A} {x : B} (l : List A) → y ∈ l → x ∈ f y → x ∈ flatMap f l

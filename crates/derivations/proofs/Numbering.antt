@@ -1,5 +1,5 @@
--- Numbers for the elements of a list in which each stands once, counted from the list's end, so that what stands behind an element has a
--- lower number.
+-- Numbers for the elements of a list in which each stands once, counted from the list's end, so that what stands behind
+-- an element has a lower number.
 -- Assumes nothing.
 use mathlib.Core.Path.{_≡_, refl, sym, _∙_, ap, subst}
 use mathlib.Core.Logic.{⊎-elim}

@@ -6,7 +6,7 @@ use Prim.Native.Nat.{ℕ, suc, _≤_, _<_}
 use native.Mathlib.Omega.{arith}
 use lib.ListN.{length, take, length-take}
 use lib.Seq.{getD-take, take-suc, length-take-le}
-use Rattle.terms.specs.Table.{AllBelow}
+use Rattle.terms.specs.Lists.{AllBelow}
 use Rattle.rules.specs.Judgment.{Judgment, wf}
 use Rattle.rules.specs.Instance.{Instance}
 use Rattle.rules.specs.RuleTable.{premiseCount}

@@ -2,9 +2,10 @@
 -- Assumes nothing.
 use mathlib.Core.Path.{_≡_, refl, sym, _∙_, ap, subst}
 use mathlib.Core.Logic.{⊎-elim}
-use mathlib.Core.List.{List, _∷_, _++_, flatMap, List·Memᴰ·not-nil, List·Memᴰ·cases-cons, List·Memᴰ·append-cases, Memᴰ·cast}
+use mathlib.Core.List.{List, [], _∷_, _++_, map, flatMap, List·Memᴰ·not-nil, List·Memᴰ·cases-cons, List·Memᴰ·append-cases, Memᴰ·cast}
 use Prim.Native.Nat.{ℕ, zero, suc, _≤_, _<_}
 use native.Mathlib.Omega.{arith}
+use lib.ListN.{getD, List·getD-map}
 use Rattle.terms.specs.Term.{Term, size}
 use Rattle.terms.specs.FreeIndices.{InRange}
 use Rattle.terms.specs.Tag.{Tag, none, Var, Univ, Pi, Lam, App, Sigma, Pair, First, Second, Nat, Zero, Succ, Ind, tagOf, shape}
@@ -12,16 +13,19 @@ use Rattle.terms.specs.Rows.{word, tag, term}
 use Rattle.terms.specs.Table.{limit, TermTable}
 use Rattle.terms.proofs.TermLaws.{spelled, downward, unfolded}
 use Rattle.rules.specs.Judgment.{Context, Judgment, contextOf, term?, list?}
+use Rattle.rules.specs.Subjects.{subjectUse, usesSubject, subjectsOf}
 use Rattle.rules.specs.Contexts.{parentOf, typeOf, context, ContextTable}
-use Rattle.rules.specs.Stated.{judgmentOf as judgmentWith, stated}
+use Rattle.rules.specs.Stated.{plainJudgment, stated}
 use Rattle.rules.proofs.ContextTableLaws.{context-empty, context-step}
+use Rattle.rules.proofs.ArmLaws.{context-of}
 use Rattle.sheets.specs.Layout.{contextsIn}
 use Rattle.sheets.specs.Lines.{judgmentOf, lineAt, statedAt}
 use Rattle.sheets.specs.Good.{Good}
 use Rattle.derivations.specs.Lists.{_∈_}
 use Rattle.derivations.specs.Fits.{subterms, subjects, termsOf, beginnings, contextsOf, Fits}
-use Rattle.sheets.specs.Accepted.{listed, statedBy}
-use Rattle.derivations.proofs.ListLaws.{Among, listed-length, in-listed, of-listed, of-flat}
+use Rattle.terms.specs.Lists.{listed, selected}
+use Rattle.sheets.specs.Accepted.{statedBy}
+use Rattle.derivations.proofs.ListLaws.{Among, listed-length, in-listed, of-listed, of-selected, of-flat}
 use Rattle.derivations.proofs.DistinctLaws.{at-most-is}
 use Rattle.derivations.proofs.Subterms.{of-children, of-subterms}
 use Rattle.sheets.proofs.AcceptedLaws.{stated-is}
@@ -102,46 +106,32 @@ module _ (b cs : List ℕ) (T C : ℕ) (table : ContextTable cs T C) where
   pub beginning-row : (n : ℕ) → n ≤ C → (G : Context) → G ∈ beginnings (context b cs n) → Among (λ k. context b cs (suc k)) C G
   beginning-row n h G m = begin-to (suc n) n (omega arith) h G m
 
--- what holds of the head and of each member behind it holds of each member
-head-or : {A : Type 0} (P : A → Type 0) {x y : A} {l : List A} → P y → (x ∈ l → P x) → x ∈ (y ∷ l) → P x
-head-or P p f m = ⊎-elim (λ e. subst P (sym e) p) f (List·Memᴰ·cases-cons m)
-
--- the subjects and the context of the judgment of a form
-subjects-with : (P : Term → Type 0) (f : ℕ) (G : Context) (s t u : Term) → (1 ≤ f → P s) → (2 ≤ f → P t) → (1 ≤ f → f ≤ 2 → P u)
-    → (x : Term) → x ∈ subjects (judgmentWith f G s t u) → P x
-unfolding judgmentWith subjects
-subjects-with P zero G s t u a b c x m = absurd (List·Memᴰ·not-nil m)
-subjects-with P (suc zero) G s t u a b c x m =
-    head-or P (a (omega arith)) (head-or P (c (omega arith) (omega arith)) (λ k. absurd (List·Memᴰ·not-nil k))) m
-subjects-with P (suc (suc zero)) G s t u a b c x m =
-    head-or P (a (omega arith)) (head-or P (b (omega arith)) (head-or P (c (omega arith) (omega arith)) (λ k. absurd (List·Memᴰ·not-nil k)))) m
-subjects-with P (suc (suc (suc zero))) G s t u a b c x m =
-    head-or P (a (omega arith)) (head-or P (b (omega arith)) (λ k. absurd (List·Memᴰ·not-nil k))) m
-subjects-with P (suc (suc (suc (suc f)))) G s t u a b c x m = absurd (List·Memᴰ·not-nil m)
-
-context-with : (f : ℕ) (G : Context) (s t u : Term) → contextOf (judgmentWith f G s t u) ≡ G
-unfolding judgmentWith contextOf
-context-with zero G s t u = refl
-context-with (suc zero) G s t u = refl
-context-with (suc (suc zero)) G s t u = refl
-context-with (suc (suc (suc zero))) G s t u = refl
-context-with (suc (suc (suc (suc f)))) G s t u = refl
+-- the subjects of the judgment of a form
+subjects-with : (f : ℕ) (G : Context) (s t u : Term)
+    → subjects (plainJudgment f G s t u) ≡ selected (subjectUse f) (s ∷ t ∷ u ∷ [])
+unfolding plainJudgment subjects
+subjects-with zero G s t u = refl
+subjects-with (suc zero) G s t u = refl
+subjects-with (suc (suc zero)) G s t u = refl
+subjects-with (suc (suc (suc zero))) G s t u = refl
+subjects-with (suc (suc (suc (suc f)))) G s t u = refl
 
 module _ {b : List ℕ} {T C L : ℕ} (g : Good b T C L) where
   abbrev cs : List ℕ
   cs = contextsIn b T
 
   subject-row : (i : ℕ) → i < L → (t : Term) → t ∈ subjects (statedAt b T C i) → Among (term b) T t
-  unfolding statedAt stated
+  unfolding statedAt stated usesSubject subjectsOf
   subject-row i h t m =
-      let n = g .lines i h .ok .numbers in
       let j = judgmentOf (lineAt b T C i) in
-      subjects-with (Among (term b) T) (j .form) (context b cs (j .context)) (term b (j .s1)) (term b (j .s2)) (term b (j .s3))
-      (λ k. (j .s1, n .first k, refl)) (λ k. (j .s2, n .second k, refl)) (λ k l. (j .s3, n .third k l, refl)) t m
+      let n = g .lines i h .ok .numbers in
+      of-selected (Among (term b) T) (subjectUse (j .form)) (map (term b) (subjectsOf j)) (term b 0)
+      (λ k u. (getD (subjectsOf j) k 0, n .subjects k u, List·getD-map (term b) (subjectsOf j) k 0))
+      (subst (λ l. t ∈ l) (subjects-with (j .form) _ _ _ _) m)
 
   context-is : (i : ℕ) → contextOf (statedAt b T C i) ≡ context b cs (judgmentOf (lineAt b T C i) .context)
   unfolding statedAt stated
-  context-is i = let j = judgmentOf (lineAt b T C i) in context-with (j .form) (context b cs (j .context)) (term b (j .s1)) (term b (j .s2)) (term b (j .s3))
+  context-is i = let j = judgmentOf (lineAt b T C i) in context-of (j .form) (context b cs (j .context)) (term b (j .s1)) (term b (j .s2)) (term b (j .s3))
 
   -- each term of what the sheet states has a row
   pub term-row : (u : Term) → u ∈ termsOf (statedBy b) → Among (term b) T u

@@ -9,7 +9,8 @@ use lib.ListN.{length, length-map, length-drop}
 use lib.Seq.{ext-getD}
 use Rattle.terms.specs.Term.{Term, zer}
 use Rattle.terms.specs.Rows.{word, term}
-use Rattle.terms.specs.Table.{AllBelow, TermTable}
+use Rattle.terms.specs.Table.{TermTable}
+use Rattle.terms.specs.Lists.{AllBelow}
 use Rattle.rules.specs.Judgment.{Context, Judgment, wf, contextOf, term?}
 use Rattle.rules.specs.Instance.{Instance}
 use Rattle.rules.specs.Contexts.{parentOf, typeOf, ContextTable}
@@ -17,7 +18,8 @@ use Rattle.rules.specs.Stated.{stated}
 use Rattle.sheets.specs.declared.lines.Line.{Line}
 use Rattle.sheets.specs.Layout.{contextsIn, linesIn}
 use Rattle.sheets.specs.Lines.{lineWord, judgmentOf, citedBy, lineAt, statedAt, LineFollows}
-use Rattle.sheets.specs.Good.{LineOk, Good}
+use Rattle.sheets.specs.Good.{Good}
+use Rattle.sheets.specs.GoodLines.{LineOk}
 use Rattle.derivations.specs.Lists.{_∈_}
 use Rattle.derivations.specs.Derivation.{judgmentAt, Derivation}
 use Rattle.sheets.specs.Accepted.{Bytes, statedBy}

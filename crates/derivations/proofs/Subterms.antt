@@ -8,7 +8,7 @@ use native.Mathlib.Omega.{arith}
 use Rattle.terms.specs.Term.{Term, var, univ, pi, lam, app, sigma, pair, first, second, nat, zer, succ, ind}
 use Rattle.terms.specs.Tag.{Tag, none, Var, Univ, Pi, Lam, App, Sigma, Pair, First, Second, Nat, Zero, Succ, Ind, arity, shape, children}
 use Rattle.terms.proofs.Shape.{AtChildren, by-shape}
-use Rattle.sheets.specs.Accepted.{listed}
+use Rattle.terms.specs.Lists.{listed}
 use Rattle.derivations.specs.Lists.{_∈_}
 use Rattle.derivations.specs.Fits.{subterms}
 use Rattle.derivations.proofs.ListLaws.{Among, in-listed, of-listed, in-flat, of-flat}

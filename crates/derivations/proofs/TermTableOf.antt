@@ -1,4 +1,5 @@
--- A well-formed term table for a list of terms in which each stands once and its children behind it: row n spells the term numbered n.
+-- A well-formed term table for a list of terms in which each stands once and its children behind it: row n spells the
+-- term numbered n.
 -- Assumes nothing.
 use mathlib.Core.Path.{_≡_, refl, sym, _∙_, ap, subst}
 use mathlib.Core.Logic.{_≢_}

@@ -9,7 +9,8 @@ use Rattle.derivations.specs.Derivation.{judgmentAt, Derivation, Derives
 use Rattle.derivations.specs.Fits.{Fits}
 use Rattle.sheets.specs.Accepted.{Bytes, IsAccepted, statedBy}
 
--- (a) an accepted sheet states as many judgments as admission answers lines, and each of them has a finite derivation by the rules alone
+-- (a) an accepted sheet states as many judgments as admission answers lines, and each of them has a finite derivation
+-- by the rules alone
 abbrev pub Sound : Type 0
 Sound =
     (b : List ℕ) (a : IsAccepted b)

@@ -1,10 +1,11 @@
--- Derivations: document 01, "Derivations that fit". "A derivation is a finite list of judgments, possibly empty, each the conclusion of
--- an instance of a rule whose premises all stand earlier in the list; it derives the last of them, if there is one."
+-- Derivations: document 01, "Derivations that fit". "A derivation is a finite list of judgments, possibly empty, each
+-- the conclusion of an instance of a rule whose premises all stand earlier in the list; it derives the last of them, if
+-- there is one."
 use mathlib.Core.Path.{_≡_}
 use mathlib.Core.List.{List, [], _∷_, _++_, map}
 use Prim.Native.Nat.{ℕ, _<_}
 use lib.ListN.{length, getD}
-use Rattle.terms.specs.Table.{AllBelow}
+use Rattle.terms.specs.Lists.{AllBelow}
 use Rattle.rules.specs.Judgment.{Judgment, wf}
 use Rattle.rules.specs.Instance.{Instance}
 
@@ -12,8 +13,8 @@ use Rattle.rules.specs.Instance.{Instance}
 abbrev pub judgmentAt : List Judgment → ℕ → Judgment
 judgmentAt js i = getD js i (wf [])
 
--- judgment i is the conclusion of an instance of a rule whose premises stand at places before i; law step-is: they all stand in the list
--- before judgment i
+-- judgment i is the conclusion of an instance of a rule whose premises stand at places before i; law step-is: they all
+-- stand in the list before judgment i
 pub record Step (js : List Judgment) (i : ℕ) : Type 0 where
   pub rule : ℕ
   pub places : List ℕ

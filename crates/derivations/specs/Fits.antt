@@ -1,12 +1,14 @@
--- Derivations that fit: document 01, "Derivations that fit". "It fits, that is, keeps the limits, if it has at most 1,024 judgments; at
--- most 3,072 different terms, subterms and context types included; at most 256 different non-empty contexts, beginnings included; and
--- indices, levels and sizes as above."
+-- Derivations that fit: document 01, "Derivations that fit". "It fits, that is, keeps the limits, if it has at most
+-- 1,024 judgments; at most 3,072 different terms, subterms and context types included; at most 256 different non-empty
+-- contexts, beginnings included; and indices, levels and sizes as above."
 use mathlib.Core.List.{List, [], _∷_, _++_, flatMap}
 use Prim.Native.Nat.{_≤_}
 use lib.ListN.{length}
 use Rattle.terms.specs.Term.{Term, var, univ, pi, lam, app, sigma, pair, first, second, nat, zer, succ, ind, size}
 use Rattle.terms.specs.FreeIndices.{InRange}
-use Rattle.rules.specs.Judgment.{Context, Judgment, wf, typed, equal, sub, contextOf, term?, list?}
+use Rattle.rules.specs.Judgment.{Context, Judgment, form, contextOf, s1, s2, s3, term?, list?}
+use Rattle.terms.specs.Lists.{selected}
+use Rattle.rules.specs.Subjects.{subjectUse}
 use Rattle.derivations.specs.Lists.{_∈_, AtMost}
 
 -- the term itself and all that stand in it
@@ -27,17 +29,16 @@ subterms (ind p a b c) = ind p a b c ∷ (subterms p ++ (subterms a ++ (subterms
 
 -- the subjects that the judgment's form uses
 unfoldable pub subjects : Judgment → List Term
-subjects (wf G) = []
-subjects (typed G a A) = a ∷ A ∷ []
-subjects (equal G a b A) = a ∷ b ∷ A ∷ []
-subjects (sub G A B) = A ∷ B ∷ []
+unfolding form s1 s2 s3 subjectUse selected
+subjects j = selected (subjectUse (form j)) (s1 j ∷ s2 j ∷ s3 j ∷ [])
 
 -- the terms of a list of judgments: subjects and context types, with all their subterms
 unfoldable pub termsOf : List Judgment → List Term
 unfolding subterms subjects flatMap
 termsOf js = flatMap (λ j. flatMap subterms (subjects j ++ contextOf j)) js
 
--- the context and its beginnings that have an entry; a context's nearest entry stands first, so its beginnings are the list's endings
+-- the context and its beginnings that have an entry; a context's nearest entry stands first, so its beginnings are the
+-- list's endings
 unfoldable pub beginnings : Context → List Context
 beginnings [] = []
 beginnings (A ∷ G) = (A ∷ G) ∷ beginnings G

@@ -1,5 +1,5 @@
-// Finds the line of the sheet on standard input that has the five numbers of the arguments, and prints `ok` with the line
-// or `refused` with number and place.
+// Finds the line of the sheet on standard input that has the five numbers of the arguments, and prints `ok` with the
+// line or `refused` with number and place.
 use answers::input::read_sheet;
 use answers::numbers::Field;
 use answers::numbers::Request;

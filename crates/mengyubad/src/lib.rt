@@ -18,7 +18,7 @@ ghost use mathlib.Core.Path.{_≡_};
 ghost use lib.ListN.{length};
 ghost use Rattle.sheets.specs.Admission.{admitOf, workAfter};
 ghost use Rattle.sheets.specs.Finding.{findOf};
-ghost use Rattle.sheets.specs.Withdrawal.{withdrawOf, outAfter, Withdrawn};
+ghost use Rattle.sheets.specs.Withdrawal.{withdrawOf, outAfter, KeepsTheOthers};
 ghost use Rattle.sheets.specs.Normality.{normalityOf};
 ghost use Rattle.windows.specs.Dates.{dayNumberOf};
 ghost use Rattle.windows.specs.Access.{windowOf, openOn};
@@ -181,7 +181,7 @@ pub extern "C" fn mengyubad_withdraw(
     ensures answer { λ r. ⌜ Given (withdrawalReply (withdrawOf (now (sheet .entry)) line (length (now (work .entry))) (length (now (out .entry))))) r (now (values .exit)) ⌝ }
     ensures left { λ _. ⌜ now (work .exit) ≡ workAfter (now (sheet .entry)) (now (work .entry)) ⌝ }
     ensures written { λ _. ⌜ now (out .exit) ≡ outAfter (now (sheet .entry)) line (length (now (work .entry))) (now (out .entry)) ⌝ }
-    ensures kept { λ _. ⌜ Withdrawn (now (sheet .entry)) line (now (out .exit)) (withdrawOf (now (sheet .entry)) line (length (now (work .entry))) (length (now (out .entry)))) ⌝ }
+    ensures kept { λ _. ⌜ KeepsTheOthers (now (sheet .entry)) line (now (out .exit)) (withdrawOf (now (sheet .entry)) line (length (now (work .entry))) (length (now (out .entry)))) ⌝ }
 {
     give(withdrawal_reply(withdraw(sheet, line, work, out)), values)
 }

@@ -13,11 +13,11 @@ use Rattle.terms.specs.Tag.{numberIn}
 use Rattle.terms.specs.Substitution.{shift}
 use Rattle.terms.specs.Decides.{Decides}
 use Rattle.terms.specs.Rows.{term}
-use Rattle.terms.proofs.Tests.{says-no, refuted, decides-via, decides-both}
+use Rattle.terms.proofs.Tests.{says-no, refuted, decides-via, _&_}
 use Rattle.rules.specs.Judgment.{Context, wf, typed}
 use Rattle.rules.specs.Instance.{Entry, Instance}
 use Rattle.rules.specs.Conditions.{IsUniverse, Declares}
-use Rattle.rules.specs.Contexts.{typeOf, context, GivenRows, entryOf}
+use Rattle.rules.specs.Contexts.{typeOf, context, InTables, entryOf}
 use Rattle.rules.specs.declared.contexts.FoundEntry.{FoundEntry}
 use Rattle.rules.specs.declared.contexts.FoundEntry.the-variants.{At, Missing}
 use Rattle.rules.proofs.ContextLaws.{rule-1, rule-2}
@@ -42,7 +42,7 @@ declares-entry {G} x e d =
 
 module _ (terms contexts : List ℕ) where
   pub nil-says : (n : ℕ) (r : Bool) → Decides r (context terms contexts n ≡ context terms contexts 0) → Decides r (Instance 1 [] (wf (context terms contexts n)))
-  nil-says n r d = decides-via r (λ e. rule-1 .1 (e ∙ context-empty terms contexts), λ i. rule-1 .0 i ∙ sym (context-empty terms contexts)) d
+  nil-says n r d = decides-via (λ e. rule-1 .1 (e ∙ context-empty terms contexts), λ i. rule-1 .0 i ∙ sym (context-empty terms contexts)) d
 
   -- the instance of WF-CONS in a context
   abbrev Conses : Context → Term → Term → Type 0
@@ -51,11 +51,11 @@ module _ (terms contexts : List ℕ) where
   pub cons-none : (n : ℕ) {q₁ q₃ : Term} → n ≡ 0 → Decides false (Conses (context terms contexts n) q₁ q₃)
   cons-none n {q₁} {q₃} e = subst (λ G. Decides false (Conses G q₁ q₃)) (sym (ap (context terms contexts) e ∙ context-empty terms contexts)) (says-no (λ i. cons≢nil (sym (rule-2 .0 i .0))))
 
-  module _ {ns ts : List ℕ} (g : GivenRows terms contexts ns ts) (n : ℕ) (within : n ≤ g .given .count) where
+  module _ {ns ts : List ℕ} (g : InTables terms contexts ns ts) (n : ℕ) (within : n ≤ g .given .count) where
     pub cons-says : {q₁ q₃ : Term} (t : ℕ) (a b : Bool) → (n ≡ 0 → ⊥) → t ≡ typeOf contexts n → Decides a (term terms t ≡ q₁) → Decides b (IsUniverse q₃) → Decides (a && b) (Conses (context terms contexts n) q₁ q₃)
     cons-says {q₁} {q₃} t a b some e da db =
         subst (λ G. Decides (a && b) (Conses G q₁ q₃)) (sym (context-step terms contexts (g .given .count) (λ m low high. g .given .table .rows m low high .earlier) n (omega arith) within))
-        (decides-via (a && b) cons-agrees (decides-both a b (subst (λ s. Decides a (term terms s ≡ q₁)) e da) db))
+        (decides-via cons-agrees (subst (λ s. Decides a (term terms s ≡ q₁)) e da & db))
 
     -- the row of the last entry's type stands in the table
     pub entry-row : (t : ℕ) → (n ≡ 0 → ⊥) → t ≡ typeOf contexts n → t < g .given .termCount
@@ -66,14 +66,14 @@ module _ (terms contexts : List ℕ) where
 
     module _ {c₁ c₃ : Term} (x : ℕ) (e : x ≡ numberIn c₁) where
       pub var-no : (r : Bool) → Decides r (c₁ ≡ var x) → r ≡ false → Decides false (Instance 3 (wf (context terms contexts n) ∷ []) (typed (context terms contexts n) c₁ c₃))
-      var-no r d f = says-no (λ i. refuted r d f (declares-variable x e (rule-3 .0 i .1)))
+      var-no r d f = says-no (λ i. refuted d f (declares-variable x e (rule-3 .0 i .1)))
 
       pub var-missing : (o : FoundEntry) → o ≡ entryOf contexts n x → o ≡ Missing → Decides false (Instance 3 (wf (context terms contexts n) ∷ []) (typed (context terms contexts n) c₁ c₃))
       var-missing o f h = says-no (λ i. let d = rule-3 .0 i .1 in entry-missing terms contexts (g .given .termCount) (g .given .count) (g .given .table) x n within (sym f ∙ h) (d .1) (declares-entry x e d .0))
 
       module _ (o : FoundEntry) (row : ℕ) (f : o ≡ entryOf contexts n x) (h : o ≡ At row) where
         pub var-found : (r : Bool) → Decides r (c₁ ≡ var x) → r ≡ true → (s : Bool) → Decides s (c₃ ≡ shift 0 (x + 1) (term terms row)) → Decides s (Instance 3 (wf (context terms contexts n) ∷ []) (typed (context terms contexts n) c₁ c₃))
-        var-found r d k s m = decides-via s (there, back) m
+        var-found r d k s m = decides-via (there, back) m
           where
             only : (A : Term) → Entry (context terms contexts n) x A ↔ (A ≡ term terms row)
             only = entry-found terms contexts (g .given .termCount) (g .given .count) (g .given .table) x n row within (sym f ∙ h)

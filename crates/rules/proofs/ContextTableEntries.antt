@@ -8,6 +8,7 @@ use native.Mathlib.Omega.{arith}
 use lib.ListN.{length}
 use Rattle.terms.specs.Term.{Term}
 use Rattle.terms.specs.Rows.{term}
+use Rattle.terms.proofs.Tests.{clash}
 use Rattle.rules.specs.Judgment.{Context}
 use Rattle.rules.specs.Instance.{Entry, here, there}
 use Rattle.rules.specs.Contexts.{parentOf, typeOf, context, ContextTable, NumberedContexts, entryOf}
@@ -23,7 +24,7 @@ entry-once here here = refl
 entry-once (there e) (there f) = entry-once e f
 
 differ : {A : Type 0} {row : ℕ} → At row ≡ Missing → A
-differ e = let z : _≡_ {A = ℕ} 0 1 = cc in absurd (omega arith)
+differ e = clash cc
 
 module _ (terms contexts : List ℕ) (termCount count : ℕ) (table : ContextTable contexts termCount count) where
   step : (n : ℕ) → 1 ≤ n → n ≤ count → context terms contexts n ≡ term terms (typeOf contexts n) ∷ context terms contexts (parentOf contexts n)

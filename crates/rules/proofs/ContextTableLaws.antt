@@ -1,5 +1,5 @@
--- The list that a context row stands for: it unfolds one entry at a time, depends on no row behind, and in a well-formed table equal
--- lists stand in one row only.
+-- The list that a context row stands for: it unfolds one entry at a time, depends on no row behind, and in a
+-- well-formed table equal lists stand in one row only.
 -- Assumes nothing.
 use mathlib.Core.Path.{_≡_, refl, sym, _∙_, ap, ap₂}
 use mathlib.Core.List.{List, [], _∷_, cons≢nil}
@@ -45,7 +45,8 @@ module _ (terms contexts : List ℕ) where
         let p = earlier (suc n) low high in
         ap (λ G. term terms (typeOf contexts (suc n)) ∷ G) (depth-enough n (parentOf contexts (suc n)) (parentOf contexts (suc n)) (omega arith) (omega arith) (omega arith))
 
-    -- tables with the same rows up to count, over terms that spell the same where they are named, hold the same contexts there
+    -- tables with the same rows up to count, over terms that spell the same where they are named, hold the same
+    -- contexts there
     module _ (terms′ contexts′ : List ℕ)
         (parents : (n : ℕ) → 1 ≤ n → n ≤ count → parentOf contexts n ≡ parentOf contexts′ n)
         (types : (n : ℕ) → 1 ≤ n → n ≤ count → term terms (typeOf contexts n) ≡ term terms′ (typeOf contexts′ n)) where

@@ -12,6 +12,7 @@ pub mod ContextTableAnswers
 pub mod UniverseLaws
 pub mod ContextRuleAnswers
 pub mod ArmLaws
-pub mod MissedLaws
+pub mod RangeLaws
 pub mod RuleTableEntries
 pub mod ShapeLaws
+pub mod SubjectLaws

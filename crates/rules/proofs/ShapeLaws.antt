@@ -1,4 +1,5 @@
--- What a premise adds is found by going up from its context, and the rule table's demands on four premises are tested one by one.
+-- What a premise adds is found by going up from its context, and the rule table's demands on four premises are tested
+-- one by one.
 -- Assumes nothing.
 use mathlib.Core.Path.{_≡_, refl, sym, _∙_, ap, subst₂}
 use mathlib.Core.Logic.{_↔_}
@@ -13,17 +14,18 @@ use lib.ListN.{getD, length, take, drop}
 use Rattle.terms.specs.Decides.{Decides}
 use Rattle.terms.specs.Term.{Term}
 use Rattle.terms.specs.Rows.{term}
-use Rattle.terms.specs.Table.{AllBelow}
-use Rattle.terms.proofs.Tests.{says-yes, says-no, decides-via, decides-both}
+use Rattle.terms.specs.Lists.{AllBelow}
+use Rattle.terms.proofs.Tests.{says-yes, says-no, decides-via, _&_}
 use Rattle.rules.specs.Judgment.{Context}
-use Rattle.rules.specs.RuleTable.{premiseCount, premiseForm, addedEntries, ruleRow, countedFrom, Adds}
-use Rattle.rules.specs.Contexts.{parentOf, typeOf, context, GivenContexts}
-use Rattle.rules.specs.Stated.{usedPremises, ShapedFrom, Shaped}
+use Rattle.rules.specs.RuleTable.{IsRule, premiseCount, premiseForm, addedEntries, ruleRow, countedFrom, Adds}
+use Rattle.rules.specs.Contexts.{parentOf, typeOf, context, ContextsInTable}
+use Rattle.rules.specs.Stated.{usedPremises}
+use Rattle.rules.specs.RuleChecks.{ShapedFrom, Shaped, ruleContexts}
 use Rattle.rules.specs.declared.judgments.LineJudgment.{LineJudgment}
 use Rattle.rules.specs.declared.table.RuleRow.{RuleRow}
 use Rattle.rules.proofs.TableLaws.{row-agrees}
 use Rattle.rules.proofs.ContextTableLaws.{context-empty, context-step}
-use Rattle.rules.proofs.ContextTableAnswers.{same-says, contexts-given, parent-given}
+use Rattle.rules.proofs.ContextTableAnswers.{same-says, other-contexts, parent-given}
 use Rattle.rules.proofs.ArmLaws.{adds-none, Fits}
 
 adds-same : {H G : Context} {k : ℕ} → k ≡ 0 → (H ≡ G) ↔ Adds H G k
@@ -63,7 +65,7 @@ one-of-four f (suc (suc (suc zero))) l = refl
 one-of-four f (suc (suc (suc (suc j)))) l = absurd (omega arith)
 
 module _ (terms contexts : List ℕ) where
-  parent-step : (n : ℕ) (ns : List ℕ) → GivenContexts terms contexts (n ∷ ns) → (n ≡ 0 → ⊥)
+  parent-step : (n : ℕ) (ns : List ℕ) → ContextsInTable terms contexts (n ∷ ns) → (n ≡ 0 → ⊥)
       → context terms contexts n ≡ term terms (typeOf contexts n) ∷ context terms contexts (parentOf contexts n)
   parent-step n ns g some =
       context-step terms contexts (g .count) (λ m low high. g .table .rows m low high .earlier) n (omega arith) (omega (arith, g .within .0))
@@ -71,15 +73,15 @@ module _ (terms contexts : List ℕ) where
   -- `adds`: what is left to be found from the context `at` on is what was asked
   module _ (n base count : ℕ) where
     pub record Climbed (at left : ℕ) : Type 0 where
-      pub given : GivenContexts terms contexts (at ∷ base ∷ [])
+      pub given : ContextsInTable terms contexts (at ∷ base ∷ [])
       pub same : Adds (context terms contexts at) (context terms contexts base) left ↔ Adds (context terms contexts n) (context terms contexts base) count
 
-    pub climbed-start : GivenContexts terms contexts (n ∷ base ∷ []) → Climbed n count
+    pub climbed-start : ContextsInTable terms contexts (n ∷ base ∷ []) → Climbed n count
     climbed-start g = record { given = g; same = (λ a. a, λ a. a) }
 
     module _ (at left : ℕ) (h : Climbed at left) where
       pub climbed-end : left ≡ 0 → Decides (eqb at base) (Adds (context terms contexts n) (context terms contexts base) count)
-      climbed-end e = decides-via (eqb at base) (h .same) (decides-via (eqb at base) (adds-same e) (same-says terms contexts at base (h .given)))
+      climbed-end e = decides-via (h .same) (decides-via (adds-same e) (same-says terms contexts at base (h .given)))
 
       module _ (more : left ≡ 0 → ⊥) where
         pub climbed-short : at ≡ 0 → Decides false (Adds (context terms contexts n) (context terms contexts base) count)
@@ -109,7 +111,7 @@ module _ (terms contexts : List ℕ) where
       pub counted-empty : n ≡ 0 → context terms contexts n ≡ countedFrom rule (context terms contexts n)
       counted-empty z = let f = ap (context terms contexts) z ∙ context-empty terms contexts in f ∙ sym (shorter (context terms contexts n) ∙ ap (drop 1) f)
 
-      pub counted-parent : (above : ℕ) → GivenContexts terms contexts (n ∷ []) → (n ≡ 0 → ⊥) → above ≡ parentOf contexts n
+      pub counted-parent : (above : ℕ) → ContextsInTable terms contexts (n ∷ []) → (n ≡ 0 → ⊥) → above ≡ parentOf contexts n
           → (context terms contexts above ≡ countedFrom rule (context terms contexts n)) × (above ≤ n)
       counted-parent above g some f = (
         ap (context terms contexts) f ∙ sym (shorter (context terms contexts n) ∙ ap (drop 1) (parent-step n [] g some)),
@@ -127,20 +129,23 @@ module _ (terms contexts : List ℕ) where
     pub fits-says : (b : Bool) → (form ≡ 255 → ⊥) → Decides b (Adds (context terms contexts (p .context)) (context terms contexts base) added)
         → Decides (eqb (p .form) form && b) FitsFrom
     fits-says b some d =
-        decides-via (eqb (p .form) form && b) (λ x k. x, λ f. f some)
-        (decides-both (eqb (p .form) form) b (eqb-true (p .form) form, eq-eqb (p .form) form) d)
+        decides-via (λ x k. x, λ f. f some) ((eqb-true (p .form) form, eq-eqb (p .form) form) & d)
 
   -- `shaped`: the demands on those of the premises that stand before place n
   module _ (rule : ℕ) (c : LineJudgment) where
+    -- the context that entries are counted from
+    abbrev from : Context
+    from = countedFrom rule (context terms contexts (c .context))
+
     abbrev Asked : ℕ → ℕ → List LineJudgment → Type 0
     Asked n j [] = Unit {0}
-    Asked n j (p ∷ ps) = (j < n → Fits terms contexts rule c p j) × Asked n (suc j) ps
+    Asked n j (p ∷ ps) = (j < n → Fits terms contexts rule from p j) × Asked n (suc j) ps
 
     none-asked : (n j : ℕ) (ps : List LineJudgment) → n ≤ j → Asked n j ps
     none-asked n j [] h = tt
     none-asked n j (p ∷ ps) h = (λ l. absurd (omega arith), none-asked n (suc j) ps (omega arith))
 
-    asked-shaped : (n j m : ℕ) (ps : List LineJudgment) → m ≡ j + n → Asked m j ps ↔ ShapedFrom terms contexts rule c j (take n ps)
+    asked-shaped : (n j m : ℕ) (ps : List LineJudgment) → m ≡ j + n → Asked m j ps ↔ ShapedFrom terms contexts rule from j (take n ps)
     unfolding ShapedFrom
     asked-shaped zero j m ps e = (λ h. tt, λ h. none-asked m j ps (omega arith))
     asked-shaped (suc n) j m [] e = (λ h. tt, λ h. tt)
@@ -155,8 +160,8 @@ module _ (terms contexts : List ℕ) where
     below-used bound (suc n) (p ∷ ps) h (suc j) l m = below-used bound n ps (h .1) j (omega arith) (omega arith)
 
     -- over the row and the context that entries are counted from, as they were read
-    module _ (isRule : (1 ≤ rule) × (rule ≤ 43)) (row : RuleRow) (isRow : row ≡ ruleRow rule) (base : ℕ)
-        (isBase : (context terms contexts base ≡ countedFrom rule (context terms contexts (c .context))) × (base ≤ c .context)) (p q r s : LineJudgment) where
+    module _ (known : IsRule rule) (row : RuleRow) (isRow : row ≡ ruleRow rule) (base : ℕ)
+        (isBase : (context terms contexts base ≡ from) × (base ≤ c .context)) (p q r s : LineJudgment) where
       abbrev premises : List LineJudgment
       premises = p ∷ q ∷ r ∷ s ∷ []
 
@@ -170,34 +175,36 @@ module _ (terms contexts : List ℕ) where
 
       -- a place asks for a premise where the rule uses one
       used-at : (j : ℕ) → j < 4 → (formAt row j ≡ 255 → ⊥) ↔ (j < premiseCount rule)
-      used-at j l = let marks = row-agrees rule (isRule .0) (isRule .1) .forms j l in (
+      used-at j l = let marks = row-agrees rule known .forms j l in (
         λ some. elim (decLe (premiseCount rule) j) [ yes m ↦ absurd (some (form-at j l ∙ marks .1 m)) | no m ↦ omega arith ],
         λ m e. let n : premiseCount rule ≤ j = marks .0 (sym (form-at j l) ∙ e) in omega arith,
       )
 
-      pub used-given : GivenContexts terms contexts (c .context ∷ map (λ k. k .context) (usedPremises rule premises))
-          → (j : ℕ) → j < 4 → (formAt row j ≡ 255 → ⊥) → GivenContexts terms contexts (getD premises j c .context ∷ base ∷ [])
+      pub used-given : ContextsInTable terms contexts (ruleContexts (usedPremises rule premises) c)
+          → (j : ℕ) → j < 4 → (formAt row j ≡ 255 → ⊥) → ContextsInTable terms contexts (getD premises j c .context ∷ base ∷ [])
       unfolding usedPremises
       used-given g j l some =
-          contexts-given terms contexts (c .context ∷ map (λ k. k .context) (usedPremises rule premises)) g (getD premises j c .context ∷ base ∷ [])
+          other-contexts g
           (below-used (suc (g .count)) (premiseCount rule) premises (g .within .1) j (used-at j l .0 some) l, (omega (arith, isBase .1, g .within .0), tt))
 
-      as-asked : (j : ℕ) → j < 4 → (k : LineJudgment) (b : Bool) → Decides b (FitsFrom base (formAt row j) (addedAt row j) k)
-          → Decides b (j < premiseCount rule → Fits terms contexts rule c k j)
-      as-asked j l k b d =
-          decides-via b (
+      as-asked : (j : ℕ) → j < 4 → (k : LineJudgment) {b : Bool} → Decides b (FitsFrom base (formAt row j) (addedAt row j) k)
+          → Decides b (j < premiseCount rule → Fits terms contexts rule from k j)
+      as-asked j l k d =
+          decides-via (
             λ f m. let x = f (used-at j l .1 m) in (x .0 ∙ form-at j l, subst₂ (Adds (context terms contexts (k .context))) (isBase .0) (added-at j l) (x .1)),
             λ f some. let x = f (used-at j l .0 some) in (x .0 ∙ sym (form-at j l), subst₂ (Adds (context terms contexts (k .context))) (sym (isBase .0)) (sym (added-at j l)) (x .1)),
-          )
-          d
+          ) d
 
-      pub shaped-says : (x y z w : Bool) → Decides x (FitsFrom base (row .form0) (row .added0) p) → Decides y (FitsFrom base (row .form1) (row .added1) q)
+      pub shaped-says : {x y z w : Bool} → Decides x (FitsFrom base (row .form0) (row .added0) p) → Decides y (FitsFrom base (row .form1) (row .added1) q)
           → Decides z (FitsFrom base (row .form2) (row .added2) r) → Decides w (FitsFrom base (row .form3) (row .added3) s)
           → Decides (((x && y) && z) && w) (Shaped terms contexts rule premises c)
       unfolding usedPremises
-      shaped-says x y z w hx hy hz hw =
-          decides-via (((x && y) && z) && w) (λ t. asked .0 (t .0 .0 .0, (t .0 .0 .1, (t .0 .1, (t .1, tt)))), λ t. let u = asked .1 t in (((u .0, u .1 .0), u .1 .1 .0), u .1 .1 .1 .0))
-          (decides-both ((x && y) && z) w (decides-both (x && y) z (decides-both x y (as-asked 0 (omega arith) p x hx) (as-asked 1 (omega arith) q y hy)) (as-asked 2 (omega arith) r z hz)) (as-asked 3 (omega arith) s w hw))
+      shaped-says hx hy hz hw =
+          decides-via (
+            λ t. asked .0 (t .0 .0 .0, (t .0 .0 .1, (t .0 .1, (t .1, tt)))),
+            λ t. let u = asked .1 t in (((u .0, u .1 .0), u .1 .1 .0), u .1 .1 .1 .0),
+          )
+          (as-asked 0 (omega arith) p hx & as-asked 1 (omega arith) q hy & as-asked 2 (omega arith) r hz & as-asked 3 (omega arith) s hw)
         where
           asked : Asked (premiseCount rule) 0 premises ↔ Shaped terms contexts rule premises c
           asked = asked-shaped (premiseCount rule) 0 (premiseCount rule) premises (omega arith)

@@ -54,7 +54,7 @@ use Rattle.rules.specs.Instance.{
   l-sigproj1,
   l-sigproj2,
 }
-use Rattle.rules.specs.RuleTable.{FitsRow, Adds, countedFrom, conclusionForm, premiseCount, premiseForm, addedEntries}
+use Rattle.rules.specs.RuleTable.{ruleCount, FitsRow, Adds, countedFrom, conclusionForm, premiseCount, premiseForm, addedEntries}
 
 -- the added entries of a premise, named
 more : {G : Context} (new : Context) → Adds (new ++ G) G (length new)
@@ -76,11 +76,11 @@ at forms added G d (p ∷ ps) h zero l = (h .0, h .1)
 at forms added G d (p ∷ ps) h (suc j) l =
     at (λ j. forms (suc j)) (λ j. added (suc j)) G d ps (h .2) j (le-of-suc-le-suc l)
 
-fit : {rule : ℕ} {ps : List Judgment} {c : Judgment} → T (leb 1 rule) → T (leb rule 43)
+fit : {rule : ℕ} {ps : List Judgment} {c : Judgment} → T (leb 1 rule) → T (leb rule ruleCount)
     → form c ≡ conclusionForm rule → length ps ≡ premiseCount rule
     → Premises (premiseForm rule) (addedEntries rule) (countedFrom rule (contextOf c)) ps → FitsRow rule ps c
 fit {rule} {ps} {c} s t e l h = record {
-  isRule = (lit≤ s, lit≤ t);
+  known = (lit≤ s, lit≤ t);
   concludes = e;
   count = l;
   forms = λ j m. every j m .0;

@@ -1,16 +1,16 @@
--- The rule table agrees with the rule ranges, the premise counts and the 255 marks: one test over all rows, that antt computes, and a
--- law that reads it at each rule.
+-- The rule table agrees with the rule ranges, the premise counts and the 255 marks: one test over all rows, that antt
+-- computes, and a law that reads it at each rule.
 use mathlib.Core.Path.{_≡_, refl, subst, sym}
 use mathlib.Core.Logic.{_↔_, _⊎_, inl, inr, Dec·and}
-use Prim.Native.Nat.{ℕ, zero, suc, _≤_, _<_}
+use Prim.Native.Nat.{ℕ, zero, suc, _*_, _≤_, _<_}
 use native.Mathlib.Nat.{not-suc-le-zero, le-of-suc-le-suc, eq-or-lt-of-le}
 use native.Mathlib.Decide.{ℕ-discrete, decLe}
 use native.Mathlib.Omega.{arith}
 use lib.ListN.{length}
-use Rattle.rules.specs.RuleTable.{ruleTable, RowAgrees, conclusionForm, premiseCount, premiseForm, addedEntries, formOf}
+use Rattle.rules.specs.RuleTable.{ruleCount, IsRule, ruleTable, RowAgrees, conclusionForm, premiseCount, premiseForm, addedEntries, formOf}
 
--- ten numbers for each of the 43 rules
-pub table-length : length ruleTable ≡ 430
+-- ten numbers for each rule
+pub table-length : length ruleTable ≡ 10 * ruleCount
 unfolding ruleTable
 table-length = refl
 
@@ -66,12 +66,12 @@ row? rule =
     (Dec·and (ℕ-discrete (conclusionForm rule) (formOf rule)) (decLe (premiseCount rule) 4))
     (Dec·and (marks? (premiseCount rule) (premiseForm rule)) (marks? (premiseCount rule) (addedEntries rule)))
 
-rows : (k : ℕ) → k < 43 → Row (suc k)
+rows : (k : ℕ) → k < ruleCount → Row (suc k)
 unfolding below? row? conclusionForm premiseCount premiseForm addedEntries formOf
-rows = holds (below? (λ k. Row (suc k)) (λ k. row? (suc k)) 43) tt
+rows = holds (below? (λ k. Row (suc k)) (λ k. row? (suc k)) ruleCount) tt
 
 -- the one theorem over all rows
-pub row-agrees : (rule : ℕ) → 1 ≤ rule → rule ≤ 43 → RowAgrees rule
-row-agrees zero h l = absurd (not-suc-le-zero h)
-row-agrees (suc k) h l =
-    let r = rows k l in record { concludes = r .0 .0; count = r .0 .1; forms = r .1 .0; added = r .1 .1 }
+pub row-agrees : (rule : ℕ) → IsRule rule → RowAgrees rule
+row-agrees zero h = absurd (not-suc-le-zero (h .0))
+row-agrees (suc k) h =
+    let r = rows k (h .1) in record { concludes = r .0 .0; count = r .0 .1; forms = r .1 .0; added = r .1 .1 }

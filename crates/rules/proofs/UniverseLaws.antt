@@ -4,11 +4,8 @@ use mathlib.Core.Path.{_≡_, sym, _∙_, ap, subst₂}
 use mathlib.Core.Logic.{_↔_}
 use Prim.Native.Nat.{ℕ, _+_, _≤_}
 use native.Mathlib.Numerals.{add-one}
-use lib.Dec.{leb}
-use borrow.Author.Tests.{leb-true, le-leb}
 use Rattle.terms.specs.Term.{Term, univ}
 use Rattle.terms.specs.Tag.{numberIn}
-use Rattle.terms.specs.Decides.{Decides}
 use Rattle.rules.specs.Conditions.{IsUniverse, NextUniverse, UniversesRise}
 
 pub universe-level : (t : Term) (i : ℕ) → i ≡ numberIn t → (t ≡ univ i) ↔ IsUniverse t
@@ -30,6 +27,3 @@ levels-rise t u m n e f = (
   λ h. (h .0 .0 .0, h .0 .1 .0, subst₂ (λ x y. x ≤ y) (e ∙ ap numberIn (h .0 .0 .1)) (f ∙ ap numberIn (h .0 .1 .1)) (h .1), h .0 .0 .1, h .0 .1 .1),
   λ r. (((r .0, r .3), (r .1, r .4)), subst₂ (λ x y. x ≤ y) (sym (e ∙ ap numberIn (r .3))) (sym (f ∙ ap numberIn (r .4))) (r .2)),
 )
-
-pub orders : (m n : ℕ) → Decides (leb m n) (m ≤ n)
-orders m n = (leb-true m n, le-leb m n)

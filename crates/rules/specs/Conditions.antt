@@ -1,4 +1,5 @@
--- What a rule asks of a judgment's parts beyond equations between them, as a check of it tests it: document 01, "Amended readings".
+-- What a rule asks of a judgment's parts beyond equations between them, as a check of it tests it: document 01,
+-- "Amended readings".
 use mathlib.Core.Path.{_≡_}
 use Prim.Native.Nat.{ℕ, suc, _≤_}
 use Rattle.terms.specs.Term.{Term, var, univ}

@@ -1,7 +1,7 @@
--- Whether a judgment is the conclusion of an instance of rule n with given premises, decided by computation: document 01, check 10.
--- The type of `instance?` says all. It reads the rule's letters off the judgments, makes the one instance of the rule
--- that has these letters, and compares that instance with the judgments. Which of rule 38's two readings is made is
--- told by the second premise's context.
+-- Whether a judgment is the conclusion of an instance of rule n with given premises, decided by computation: document
+-- 01, check 10. The type of `instance?` says all. It reads the rule's letters off the judgments, makes the one instance
+-- of the rule that has these letters, and compares that instance with the judgments. Which of rule 38's two readings is
+-- made is told by the second premise's context.
 use mathlib.Core.Path.{_≡_, refl, sym, ap, subst, subst₃}
 use mathlib.Core.List.{List, [], _∷_}
 use mathlib.Core.Option.{Option, none, some}
@@ -73,7 +73,8 @@ found {n} {ps} {c} i = record { number = n; premises = ps; conclusion = c; holds
 abbrev pub Matches : ℕ → List Judgment → Judgment → Candidate → Type 0
 Matches n ps c k = (k .number ≡ n) × (k .premises ≡ ps) × (k .conclusion ≡ c)
 
--- Rule 3's condition, x : A in G. Where it fails there is no instance of the rule, and one of rule 1 stands in: its number differs.
+-- Rule 3's condition, x : A in G. Where it fails there is no instance of the rule, and one of rule 1 stands in: its
+-- number differs.
 deeper : {G : Context} {B : Term} {x : ℕ} → Option ((A : Term) × Entry G x A) → Option ((A : Term) × Entry (B ∷ G) (suc x) A)
 deeper none = none
 deeper (some e) = some (e .0, there (e .1))
@@ -127,8 +128,8 @@ unfolding domains
 smaller-same G A₀ A₁ B₀ B₁ (yes e) = (refl, ap (λ H. sub G A₁ A₀ ∷ sub H B₀ B₁ ∷ []) (sym e), refl)
 smaller-same G A₀ A₁ B₀ B₁ (no q) = (refl, refl, refl)
 
--- For each number from 0, which is no rule: the candidate, from the conclusion c and the premises p, q, r, s. Functions, so that only
--- the one that is asked for is computed.
+-- For each number from 0, which is no rule: the candidate, from the conclusion c and the premises p, q, r, s.
+-- Functions, so that only the one that is asked for is computed.
 candidates : List (Judgment → Judgment → Judgment → Judgment → Judgment → Candidate)
 unfolding variable entryAt levels domains decLe contextOf s1 s2 s3 term? list? numberIn child
 candidates =
@@ -178,7 +179,7 @@ candidates =
     (λ c p q r s. found (l-sigproj2 (contextOf c) (s3 q) (child (s2 p) 1) (child (s1 p) 2) (child (s2 p) 2) (s1 q) (s2 q))) ∷
     []
 
--- the instance of rule n whose letters are read off these judgments; past 43 again one of rule 1
+-- the instance of rule n whose letters are read off these judgments; past the last rule again one of rule 1
 unfoldable pub nearest : ℕ → List Judgment → Judgment → Candidate
 unfolding candidates
 nearest n ps c = getD candidates n (λ c p q r s. found wf-nil) c (getD ps 0 c) (getD ps 1 c) (getD ps 2 c) (getD ps 3 c)

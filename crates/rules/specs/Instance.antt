@@ -1,7 +1,7 @@
 -- The 43 rules: sections 1 and 2 of source document 000 as document 01 amends them, a constructor each, named, numbered
--- and ordered as printed; rule 38 has two, one a reading (document 02, A3).
--- `Instance n premises conclusion` is an instance of rule n; its premises stand left to right as printed.
--- A constructor takes the context, then the rule's letters, capitals first, each in the order of the alphabet; conditions come last.
+-- and ordered as printed; rule 38 has two, one a reading (document 02, A3). `Instance n premises conclusion` is an
+-- instance of rule n; its premises stand left to right as printed. A constructor takes the context, then the rule's
+-- letters, capitals first, each in the order of the alphabet; conditions come last.
 use mathlib.Core.List.{List, [], _∷_}
 use Prim.Native.Nat.{ℕ, zero, suc, _≤_}
 use Rattle.terms.specs.Term.{Term, var, univ, pi, lam, app, sigma, pair, first, second, nat, zer, succ, ind}

@@ -1,12 +1,13 @@
--- Plain judgments: document 01, "Derivations that fit". A judgment is its form, its context and the subjects that its form uses.
+-- Plain judgments: document 01, "Derivations that fit". A judgment is its form, its context and the subjects that its
+-- form uses.
 use mathlib.Core.Path.{_≡_, refl, sym}
 use mathlib.Core.List.{List, [], _∷_, cons≢nil}
 use Prim.Native.Nat.{ℕ}
 use native.Mathlib.Decide.{ℕ-discrete}
 use Rattle.terms.specs.Term.{Term, zer, Term-discrete}
 
--- The entries' types, the nearest first: document 01 reads a context from the empty one on, so its "last entry" is the list's head,
--- and the variable 0 is the entry at the head.
+-- The entries' types, the nearest first: document 01 reads a context from the empty one on, so its "last entry" is the
+-- list's head, and the variable 0 is the entry at the head.
 abbrev pub Context : Type 0
 Context = List Term
 
@@ -30,7 +31,8 @@ contextOf (typed G a A) = G
 contextOf (equal G a b A) = G
 contextOf (sub G A B) = G
 
--- The subjects by the names that a line gives them: form 1 uses s1 and s3, form 3 uses s1 and s2; zer where the form uses none.
+-- The subjects by the names that a line gives them: form 1 uses s1 and s3, form 3 uses s1 and s2; zer where the form
+-- uses none.
 unfoldable pub s1 : Judgment → Term
 s1 (wf G) = zer
 s1 (typed G a A) = a
@@ -49,7 +51,8 @@ s3 (typed G a A) = A
 s3 (equal G a b A) = A
 s3 (sub G A B) = zer
 
--- Equality of terms, lists and judgments, decided by computation (the library's decision on lists does not compute outside its module).
+-- Equality of terms, lists and judgments, decided by computation (the library's decision on lists does not compute
+-- outside its module).
 unfoldable pub term? : Discrete Term
 unfolding ℕ-discrete
 term? = Term-discrete ℕ-discrete

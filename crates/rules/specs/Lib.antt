@@ -2,7 +2,9 @@ pub mod Judgment
 pub mod Instance
 pub mod Conditions
 pub mod Readings
+pub mod Subjects
 pub mod RuleTable
 pub mod Decision
 pub mod Contexts
 pub mod Stated
+pub mod RuleChecks

@@ -1,15 +1,27 @@
--- The rule table: document 01, "The 43 rules". Ten numbers for each rule, in the rules' order: conclusion form, premise count, four
--- premise forms, and four counts of entries that each premise's context adds to the conclusion's, 255 where there is no premise. For
--- rule 2 the added entries are counted from the context without its last entry.
+-- The rule table: document 01, "The 43 rules". Ten numbers for each rule, in the rules' order: conclusion form, premise
+-- count, four premise forms, and four counts of entries that each premise's context adds to the conclusion's, 255 where
+-- there is no premise. For rule 2 the added entries are counted from the context without its last entry.
 use mathlib.Core.Path.{_≡_}
 use mathlib.Core.Logic.{_↔_}
 use mathlib.Core.List.{List, [], _∷_, _++_}
-use mathlib.Core.Bool.{true, false}
+use mathlib.Core.Bool.{Bool, true, false, _&&_}
 use Prim.Native.Nat.{ℕ, _+_, _-_, _*_, _≤_, _<_}
 use lib.Dec.{leb, eqb}
 use lib.ListN.{getD, length, drop}
 use Rattle.rules.specs.Judgment.{Context, Judgment, form, contextOf}
 use Rattle.rules.specs.declared.table.RuleRow.{RuleRow}
+
+-- rules count from 1
+abbrev pub ruleCount : ℕ
+ruleCount = 43
+
+-- a rule's number
+abbrev pub IsRule : ℕ → Type 0
+IsRule rule = (1 ≤ rule) × (rule ≤ ruleCount)
+
+-- the same by computation
+unfoldable pub ruleKnown : ℕ → Bool
+ruleKnown rule = leb 1 rule && leb rule ruleCount
 
 unfoldable pub ruleTable : List ℕ
 ruleTable =
@@ -95,7 +107,8 @@ ruleRow rule =
       added3 = addedEntries rule 3;
     }
 
--- "The ranges 1-2, 3-16, 17-34 and 35-43 conclude forms 0, 1, 2 and 3"; 255, which is no form, where there is no such rule
+-- "The ranges 1-2, 3-16, 17-34 and 35-43 conclude forms 0, 1, 2 and 3"; 255, which is no form, where there is no such
+-- rule
 unfoldable pub formOf : ℕ → ℕ
 formOf rule =
     elim (leb rule 0) [
@@ -110,7 +123,7 @@ formOf rule =
                       elim (leb rule 34) [
                         | true ↦ 2
                         | false ↦
-                            elim (leb rule 43) [ true ↦ 3 | false ↦ 255 ]
+                            elim (leb rule ruleCount) [ true ↦ 3 | false ↦ 255 ]
                       ]
                 ]
           ]
@@ -129,13 +142,14 @@ pub record Adds (H G : Context) (n : ℕ) : Type 0 where
   pub many : length new ≡ n
   pub joined : H ≡ new ++ G
 
--- the context that a rule's added entries are counted from: the conclusion's, but for rule 2 that without its last entry
+-- the context that a rule's added entries are counted from: the conclusion's, but for rule 2 that without its last
+-- entry
 unfoldable pub countedFrom : ℕ → Context → Context
 countedFrom rule G = elim (eqb rule 2) [ true ↦ drop 1 G | false ↦ G ]
 
 -- What a row says of an instance of its rule.
 pub record FitsRow (rule : ℕ) (premises : List Judgment) (conclusion : Judgment) : Type 0 where
-  pub isRule : (1 ≤ rule) × (rule ≤ 43)
+  pub known : IsRule rule
   pub concludes : form conclusion ≡ conclusionForm rule
   pub count : length premises ≡ premiseCount rule
   pub forms : (j : ℕ) → j < length premises → form (getD premises j conclusion) ≡ premiseForm rule j

@@ -9,11 +9,11 @@ ghost use lib.ListN.{length};
 ghost use Rattle.terms.specs.Decides.{Decides};
 ghost use Rattle.terms.specs.Term.{nat};
 ghost use Rattle.terms.specs.Rows.{term};
-ghost use Rattle.rules.specs.Contexts.{parentOf, typeOf, context, NumberedContexts, GivenContexts, GivenRows, holdsContext, repeatedWithin, rightContext, checkContexts, entryOf};
+ghost use Rattle.rules.specs.Contexts.{parentOf, typeOf, context, NumberedContexts, ContextsInTable, InTables, holdsContext, repeatedWithin, rightContext, checkContexts, entryOf};
 
 // What the check of a table finds: every row is right, or the first faulty row.
 pub enum ContextsAnswer {
-    Sound,
+    NoFault,
     Faulty { place: usize },
 }
 
@@ -65,13 +65,13 @@ fn repeated(contexts: &[u8], above: usize, row: usize, count: usize) -> bool
 }
 
 // Is row `n` right: an earlier parent, a term that is there, and no repetition?
-fn right(contexts: &[u8], terms: usize, n: usize) -> bool
+fn right(contexts: &[u8], term_count: usize, n: usize) -> bool
     requires { ⌜ (1 ≤ n) × (4 * n ≤ length (now contexts)) ⌝ }
-    ensures { λ r. ⌜ r ≡ rightContext (now (contexts .entry)) terms n ⌝ }
+    ensures { λ r. ⌜ r ≡ rightContext (now (contexts .entry)) «term_count» n ⌝ }
 {
     let above = parent(contexts, n);
     let row = type_of(contexts, n);
-    if (above < n) & (row < terms) {
+    if (above < n) & (row < term_count) {
         !repeated(contexts, above, row, n - 1)
     } else {
         false
@@ -79,32 +79,33 @@ fn right(contexts: &[u8], terms: usize, n: usize) -> bool
 }
 
 // Checks the first `count` rows in order, over the given number of terms.
-pub fn check_contexts(contexts: &[u8], terms: usize, count: usize) -> ContextsAnswer
+pub fn check_contexts(contexts: &[u8], term_count: usize, count: usize) -> ContextsAnswer
     requires { ⌜ 4 * count ≤ length (now contexts) ⌝ }
-    ensures { λ r. ⌜ r ≡ checkContexts (now (contexts .entry)) terms count ⌝ }
+    ensures { λ r. ⌜ r ≡ checkContexts (now (contexts .entry)) «term_count» count ⌝ }
 {
     let mut n = 1;
     while n <= count {
-        if right(contexts, terms, n) {
+        if right(contexts, term_count, n) {
             n += 1;
         } else {
             return ContextsAnswer::Faulty { place: n };
         }
     }
-    ContextsAnswer::Sound
+    ContextsAnswer::NoFault
 }
 
 // Are contexts `m` and `n` equal? The tables are only spoken of: equal contexts have equal numbers.
 pub fn same_context(terms: &[u8], contexts: &[u8], m: usize, n: usize) -> bool
-    requires { ⌜ GivenContexts (now terms) (now contexts) (m ∷ n ∷ []) ⌝ }
+    requires { ⌜ ContextsInTable (now terms) (now contexts) (m ∷ n ∷ []) ⌝ }
     ensures { λ r. ⌜ Decides r (context (now (terms .entry)) (now (contexts .entry)) m ≡ context (now (terms .entry)) (now (contexts .entry)) n) ⌝ }
 {
     m == n
 }
 
-// Is context `n` the context `base` with the type of row `row` added? Equal terms have equal rows, so that none is read.
+// Is context `n` the context `base` with the type of row `row` added? Equal terms have equal rows, so that none is
+// read.
 pub fn extends(terms: &[u8], contexts: &[u8], n: usize, base: usize, row: usize) -> bool
-    requires { ⌜ GivenRows (now terms) (now contexts) (n ∷ base ∷ []) (row ∷ []) ⌝ }
+    requires { ⌜ InTables (now terms) (now contexts) (n ∷ base ∷ []) (row ∷ []) ⌝ }
     ensures { λ r. ⌜ Decides r (context (now (terms .entry)) (now (contexts .entry)) n ≡ term (now (terms .entry)) row ∷ context (now (terms .entry)) (now (contexts .entry)) base) ⌝ }
 {
     if n == 0 {
@@ -115,7 +116,7 @@ pub fn extends(terms: &[u8], contexts: &[u8], n: usize, base: usize, row: usize)
 
 // Is context `n` the context `base` with Nat added? Nat need have no row.
 pub fn extends_nat(terms: &[u8], contexts: &[u8], n: usize, base: usize) -> bool
-    requires { ⌜ GivenContexts (now terms) (now contexts) (n ∷ base ∷ []) ⌝ }
+    requires { ⌜ ContextsInTable (now terms) (now contexts) (n ∷ base ∷ []) ⌝ }
     ensures { λ r. ⌜ Decides r (context (now (terms .entry)) (now (contexts .entry)) n ≡ nat ∷ context (now (terms .entry)) (now (contexts .entry)) base) ⌝ }
 {
     if n == 0 {
@@ -126,7 +127,7 @@ pub fn extends_nat(terms: &[u8], contexts: &[u8], n: usize, base: usize) -> bool
 
 // Is context `n` the context `base` with Nat and then the type of row `row` added?
 pub fn extends_nat_then(terms: &[u8], contexts: &[u8], n: usize, base: usize, row: usize) -> bool
-    requires { ⌜ GivenRows (now terms) (now contexts) (n ∷ base ∷ []) (row ∷ []) ⌝ }
+    requires { ⌜ InTables (now terms) (now contexts) (n ∷ base ∷ []) (row ∷ []) ⌝ }
     ensures { λ r. ⌜ Decides r (context (now (terms .entry)) (now (contexts .entry)) n ≡ term (now (terms .entry)) row ∷ nat ∷ context (now (terms .entry)) (now (contexts .entry)) base) ⌝ }
 {
     if n == 0 {

@@ -4,7 +4,7 @@ use crate::contexts::extends_nat;
 use crate::contexts::extends_nat_then;
 use crate::judgments::LineJudgment;
 use crate::universes::is_universe;
-use terms::images::Put;
+use terms::images::Subst;
 use terms::images::is_shifted;
 use terms::images::is_substituted;
 use terms::nodes::Node;
@@ -13,32 +13,29 @@ use terms::nodes::is_node;
 use terms::nodes::same_term;
 ghost use mathlib.Core.List.{[], _∷_};
 ghost use Rattle.terms.specs.Decides.{Decides};
-ghost use Rattle.terms.specs.Table.{Given};
-ghost use Rattle.rules.specs.Judgment.{Context};
-ghost use Rattle.rules.specs.Contexts.{context, GivenRows};
-ghost use Rattle.rules.specs.Instance.{Instance};
-ghost use Rattle.rules.specs.Stated.{saidIn, says};
+ghost use Rattle.terms.specs.Table.{RowsInTable};
+ghost use Rattle.rules.specs.RuleChecks.{ruleSubjects, RuleInTables, FollowsPlaced, DecidesInEvery};
 
 // E-REFL
 pub fn e_refl(terms: &[u8], c: LineJudgment, p: LineJudgment) -> bool
-    requires { ⌜ Given (now terms) (c .s1 ∷ c .s2 ∷ c .s3 ∷ p .s1 ∷ p .s3 ∷ []) ⌝ }
-    ensures { λ ok. ⌜ ((G : Context) → Decides ok (Instance 17 (says (now (terms .entry)) 1 G p ∷ []) (says (now (terms .entry)) 2 G c))) ⌝ }
+    requires { ⌜ RowsInTable (now terms) (ruleSubjects 17 (p ∷ []) c) ⌝ }
+    ensures { λ ok. ⌜ DecidesInEvery ok (now (terms .entry)) 17 (p ∷ []) c ⌝ }
 {
     same_term(terms, c.s1, p.s1) & same_term(terms, c.s2, p.s1) & same_term(terms, c.s3, p.s3)
 }
 
 // E-SYM
 pub fn e_sym(terms: &[u8], c: LineJudgment, p: LineJudgment) -> bool
-    requires { ⌜ Given (now terms) (c .s1 ∷ c .s2 ∷ c .s3 ∷ p .s1 ∷ p .s2 ∷ p .s3 ∷ []) ⌝ }
-    ensures { λ ok. ⌜ ((G : Context) → Decides ok (Instance 18 (says (now (terms .entry)) 2 G p ∷ []) (says (now (terms .entry)) 2 G c))) ⌝ }
+    requires { ⌜ RowsInTable (now terms) (ruleSubjects 18 (p ∷ []) c) ⌝ }
+    ensures { λ ok. ⌜ DecidesInEvery ok (now (terms .entry)) 18 (p ∷ []) c ⌝ }
 {
     same_term(terms, c.s1, p.s2) & same_term(terms, c.s2, p.s1) & same_term(terms, c.s3, p.s3)
 }
 
 // E-TRANS
 pub fn e_trans(terms: &[u8], c: LineJudgment, p: LineJudgment, q: LineJudgment) -> bool
-    requires { ⌜ Given (now terms) (c .s1 ∷ c .s2 ∷ c .s3 ∷ p .s1 ∷ p .s2 ∷ p .s3 ∷ q .s1 ∷ q .s2 ∷ q .s3 ∷ []) ⌝ }
-    ensures { λ ok. ⌜ ((G : Context) → Decides ok (Instance 19 (says (now (terms .entry)) 2 G p ∷ says (now (terms .entry)) 2 G q ∷ []) (says (now (terms .entry)) 2 G c))) ⌝ }
+    requires { ⌜ RowsInTable (now terms) (ruleSubjects 19 (p ∷ q ∷ []) c) ⌝ }
+    ensures { λ ok. ⌜ DecidesInEvery ok (now (terms .entry)) 19 (p ∷ q ∷ []) c ⌝ }
 {
     same_term(terms, c.s1, p.s1)
         & same_term(terms, q.s1, p.s2)
@@ -55,8 +52,8 @@ pub fn e_pi(
     p: LineJudgment,
     q: LineJudgment,
 ) -> bool
-    requires { ⌜ GivenRows (now terms) (now contexts) (c .context ∷ p .context ∷ q .context ∷ []) (c .s1 ∷ c .s2 ∷ c .s3 ∷ p .s1 ∷ p .s2 ∷ p .s3 ∷ q .s1 ∷ q .s2 ∷ q .s3 ∷ []) ⌝ }
-    ensures { λ ok. ⌜ Decides ok (Instance 20 (saidIn (now (terms .entry)) (now (contexts .entry)) 2 c p ∷ saidIn (now (terms .entry)) (now (contexts .entry)) 2 q q ∷ []) (saidIn (now (terms .entry)) (now (contexts .entry)) 2 c c)) ⌝ }
+    requires { ⌜ RuleInTables (now terms) (now contexts) 20 (p ∷ q ∷ []) c ⌝ }
+    ensures { λ ok. ⌜ Decides ok (FollowsPlaced (now (terms .entry)) (now (contexts .entry)) 20 (p ∷ q ∷ []) c) ⌝ }
 {
     extends(terms, contexts, q.context, c.context, p.s1)
         & is_node(terms, c.s1, Node::Pi(p.s1, q.s1))
@@ -68,8 +65,8 @@ pub fn e_pi(
 
 // E-ABSEXT
 pub fn e_absext(terms: &[u8], contexts: &[u8], c: LineJudgment, p: LineJudgment) -> bool
-    requires { ⌜ GivenRows (now terms) (now contexts) (c .context ∷ p .context ∷ []) (c .s1 ∷ c .s2 ∷ c .s3 ∷ p .s1 ∷ p .s2 ∷ p .s3 ∷ []) ⌝ }
-    ensures { λ ok. ⌜ Decides ok (Instance 21 (saidIn (now (terms .entry)) (now (contexts .entry)) 2 p p ∷ []) (saidIn (now (terms .entry)) (now (contexts .entry)) 2 c c)) ⌝ }
+    requires { ⌜ RuleInTables (now terms) (now contexts) 21 (p ∷ []) c ⌝ }
+    ensures { λ ok. ⌜ Decides ok (FollowsPlaced (now (terms .entry)) (now (contexts .entry)) 21 (p ∷ []) c) ⌝ }
 {
     let a = child(terms, c.s3, 1);
     let f = child(terms, p.s1, 1);
@@ -91,15 +88,15 @@ pub fn e_absext(terms: &[u8], contexts: &[u8], c: LineJudgment, p: LineJudgment)
 
 // E-APP
 pub fn e_app(terms: &[u8], c: LineJudgment, p: LineJudgment, q: LineJudgment) -> bool
-    requires { ⌜ Given (now terms) (c .s1 ∷ c .s2 ∷ c .s3 ∷ p .s1 ∷ p .s2 ∷ p .s3 ∷ q .s1 ∷ q .s2 ∷ q .s3 ∷ []) ⌝ }
-    ensures { λ ok. ⌜ ((G : Context) → Decides ok (Instance 22 (says (now (terms .entry)) 2 G p ∷ says (now (terms .entry)) 2 G q ∷ []) (says (now (terms .entry)) 2 G c))) ⌝ }
+    requires { ⌜ RowsInTable (now terms) (ruleSubjects 22 (p ∷ q ∷ []) c) ⌝ }
+    ensures { λ ok. ⌜ DecidesInEvery ok (now (terms .entry)) 22 (p ∷ q ∷ []) c ⌝ }
 {
     let b = child(terms, p.s3, 2);
     if is_node(terms, p.s3, Node::Pi(q.s3, b))
         & is_node(terms, c.s1, Node::App(p.s1, q.s1))
         & is_node(terms, c.s2, Node::App(p.s2, q.s2))
     {
-        is_substituted(terms, 0, Put::Row(q.s1), b, c.s3)
+        is_substituted(terms, 0, Subst::Row(q.s1), b, c.s3)
     } else {
         false
     }
@@ -113,8 +110,8 @@ pub fn e_sig(
     p: LineJudgment,
     q: LineJudgment,
 ) -> bool
-    requires { ⌜ GivenRows (now terms) (now contexts) (c .context ∷ p .context ∷ q .context ∷ []) (c .s1 ∷ c .s2 ∷ c .s3 ∷ p .s1 ∷ p .s2 ∷ p .s3 ∷ q .s1 ∷ q .s2 ∷ q .s3 ∷ []) ⌝ }
-    ensures { λ ok. ⌜ Decides ok (Instance 23 (saidIn (now (terms .entry)) (now (contexts .entry)) 2 c p ∷ saidIn (now (terms .entry)) (now (contexts .entry)) 2 q q ∷ []) (saidIn (now (terms .entry)) (now (contexts .entry)) 2 c c)) ⌝ }
+    requires { ⌜ RuleInTables (now terms) (now contexts) 23 (p ∷ q ∷ []) c ⌝ }
+    ensures { λ ok. ⌜ Decides ok (FollowsPlaced (now (terms .entry)) (now (contexts .entry)) 23 (p ∷ q ∷ []) c) ⌝ }
 {
     extends(terms, contexts, q.context, c.context, p.s1)
         & is_node(terms, c.s1, Node::Sigma(p.s1, q.s1))
@@ -126,8 +123,8 @@ pub fn e_sig(
 
 // E-PAIREXT
 pub fn e_pairext(terms: &[u8], c: LineJudgment, p: LineJudgment, q: LineJudgment) -> bool
-    requires { ⌜ Given (now terms) (c .s1 ∷ c .s2 ∷ c .s3 ∷ p .s1 ∷ p .s2 ∷ p .s3 ∷ q .s1 ∷ q .s2 ∷ q .s3 ∷ []) ⌝ }
-    ensures { λ ok. ⌜ ((G : Context) → Decides ok (Instance 24 (says (now (terms .entry)) 2 G p ∷ says (now (terms .entry)) 2 G q ∷ []) (says (now (terms .entry)) 2 G c))) ⌝ }
+    requires { ⌜ RowsInTable (now terms) (ruleSubjects 24 (p ∷ q ∷ []) c) ⌝ }
+    ensures { λ ok. ⌜ DecidesInEvery ok (now (terms .entry)) 24 (p ∷ q ∷ []) c ⌝ }
 {
     let b = child(terms, c.s3, 2);
     if is_node(terms, p.s1, Node::First(c.s1))
@@ -136,7 +133,7 @@ pub fn e_pairext(terms: &[u8], c: LineJudgment, p: LineJudgment, q: LineJudgment
         & is_node(terms, q.s2, Node::Second(c.s2))
         & is_node(terms, c.s3, Node::Sigma(p.s3, b))
     {
-        is_substituted(terms, 0, Put::First(c.s1), b, q.s3)
+        is_substituted(terms, 0, Subst::First(c.s1), b, q.s3)
     } else {
         false
     }
@@ -144,8 +141,8 @@ pub fn e_pairext(terms: &[u8], c: LineJudgment, p: LineJudgment, q: LineJudgment
 
 // E-PROJ1
 pub fn e_proj1(terms: &[u8], c: LineJudgment, p: LineJudgment) -> bool
-    requires { ⌜ Given (now terms) (c .s1 ∷ c .s2 ∷ c .s3 ∷ p .s1 ∷ p .s2 ∷ p .s3 ∷ []) ⌝ }
-    ensures { λ ok. ⌜ ((G : Context) → Decides ok (Instance 25 (says (now (terms .entry)) 2 G p ∷ []) (says (now (terms .entry)) 2 G c))) ⌝ }
+    requires { ⌜ RowsInTable (now terms) (ruleSubjects 25 (p ∷ []) c) ⌝ }
+    ensures { λ ok. ⌜ DecidesInEvery ok (now (terms .entry)) 25 (p ∷ []) c ⌝ }
 {
     let b = child(terms, p.s3, 2);
     is_node(terms, c.s1, Node::First(p.s1))
@@ -155,8 +152,8 @@ pub fn e_proj1(terms: &[u8], c: LineJudgment, p: LineJudgment) -> bool
 
 // E-PROJ2
 pub fn e_proj2(terms: &[u8], c: LineJudgment, p: LineJudgment) -> bool
-    requires { ⌜ Given (now terms) (c .s1 ∷ c .s2 ∷ c .s3 ∷ p .s1 ∷ p .s2 ∷ p .s3 ∷ []) ⌝ }
-    ensures { λ ok. ⌜ ((G : Context) → Decides ok (Instance 26 (says (now (terms .entry)) 2 G p ∷ []) (says (now (terms .entry)) 2 G c))) ⌝ }
+    requires { ⌜ RowsInTable (now terms) (ruleSubjects 26 (p ∷ []) c) ⌝ }
+    ensures { λ ok. ⌜ DecidesInEvery ok (now (terms .entry)) 26 (p ∷ []) c ⌝ }
 {
     let a = child(terms, p.s3, 1);
     let b = child(terms, p.s3, 2);
@@ -164,7 +161,7 @@ pub fn e_proj2(terms: &[u8], c: LineJudgment, p: LineJudgment) -> bool
         & is_node(terms, c.s2, Node::Second(p.s2))
         & is_node(terms, p.s3, Node::Sigma(a, b))
     {
-        is_substituted(terms, 0, Put::First(p.s1), b, c.s3)
+        is_substituted(terms, 0, Subst::First(p.s1), b, c.s3)
     } else {
         false
     }
@@ -172,8 +169,8 @@ pub fn e_proj2(terms: &[u8], c: LineJudgment, p: LineJudgment) -> bool
 
 // E-SUC
 pub fn e_suc(terms: &[u8], c: LineJudgment, p: LineJudgment) -> bool
-    requires { ⌜ Given (now terms) (c .s1 ∷ c .s2 ∷ c .s3 ∷ p .s1 ∷ p .s2 ∷ p .s3 ∷ []) ⌝ }
-    ensures { λ ok. ⌜ ((G : Context) → Decides ok (Instance 27 (says (now (terms .entry)) 2 G p ∷ []) (says (now (terms .entry)) 2 G c))) ⌝ }
+    requires { ⌜ RowsInTable (now terms) (ruleSubjects 27 (p ∷ []) c) ⌝ }
+    ensures { λ ok. ⌜ DecidesInEvery ok (now (terms .entry)) 27 (p ∷ []) c ⌝ }
 {
     is_node(terms, c.s1, Node::Succ(p.s1))
         & is_node(terms, c.s2, Node::Succ(p.s2))
@@ -191,8 +188,8 @@ pub fn e_ind(
     r: LineJudgment,
     s: LineJudgment,
 ) -> bool
-    requires { ⌜ GivenRows (now terms) (now contexts) (c .context ∷ p .context ∷ q .context ∷ r .context ∷ s .context ∷ []) (c .s1 ∷ c .s2 ∷ c .s3 ∷ p .s1 ∷ p .s2 ∷ p .s3 ∷ q .s1 ∷ q .s2 ∷ q .s3 ∷ r .s1 ∷ r .s2 ∷ r .s3 ∷ s .s1 ∷ s .s2 ∷ s .s3 ∷ []) ⌝ }
-    ensures { λ ok. ⌜ Decides ok (Instance 28 (saidIn (now (terms .entry)) (now (contexts .entry)) 2 p p ∷ saidIn (now (terms .entry)) (now (contexts .entry)) 2 c q ∷ saidIn (now (terms .entry)) (now (contexts .entry)) 2 c r ∷ saidIn (now (terms .entry)) (now (contexts .entry)) 2 s s ∷ []) (saidIn (now (terms .entry)) (now (contexts .entry)) 2 c c)) ⌝ }
+    requires { ⌜ RuleInTables (now terms) (now contexts) 28 (p ∷ q ∷ r ∷ s ∷ []) c ⌝ }
+    ensures { λ ok. ⌜ Decides ok (FollowsPlaced (now (terms .entry)) (now (contexts .entry)) 28 (p ∷ q ∷ r ∷ s ∷ []) c) ⌝ }
 {
     if extends_nat(terms, contexts, p.context, c.context)
         & extends_nat_then(terms, contexts, s.context, c.context, p.s1)
@@ -201,9 +198,9 @@ pub fn e_ind(
         & is_node(terms, c.s1, Node::Ind(p.s1, q.s1, r.s1, s.s1))
         & is_node(terms, c.s2, Node::Ind(p.s2, q.s2, r.s2, s.s2))
     {
-        is_substituted(terms, 0, Put::Zero, p.s1, r.s3)
-            & is_substituted(terms, 0, Put::OuterSucc, p.s1, s.s3)
-            & is_substituted(terms, 0, Put::Row(q.s1), p.s1, c.s3)
+        is_substituted(terms, 0, Subst::Zero, p.s1, r.s3)
+            & is_substituted(terms, 0, Subst::OuterSucc, p.s1, s.s3)
+            & is_substituted(terms, 0, Subst::Row(q.s1), p.s1, c.s3)
     } else {
         false
     }
@@ -211,8 +208,8 @@ pub fn e_ind(
 
 // E-CONV
 pub fn e_conv(terms: &[u8], c: LineJudgment, p: LineJudgment, q: LineJudgment) -> bool
-    requires { ⌜ Given (now terms) (c .s1 ∷ c .s2 ∷ c .s3 ∷ p .s1 ∷ p .s2 ∷ p .s3 ∷ q .s1 ∷ q .s2 ∷ []) ⌝ }
-    ensures { λ ok. ⌜ ((G : Context) → Decides ok (Instance 29 (says (now (terms .entry)) 2 G p ∷ says (now (terms .entry)) 3 G q ∷ []) (says (now (terms .entry)) 2 G c))) ⌝ }
+    requires { ⌜ RowsInTable (now terms) (ruleSubjects 29 (p ∷ q ∷ []) c) ⌝ }
+    ensures { λ ok. ⌜ DecidesInEvery ok (now (terms .entry)) 29 (p ∷ q ∷ []) c ⌝ }
 {
     same_term(terms, c.s1, p.s1)
         & same_term(terms, c.s2, p.s2)
@@ -228,16 +225,16 @@ pub fn e_appabs(
     p: LineJudgment,
     q: LineJudgment,
 ) -> bool
-    requires { ⌜ GivenRows (now terms) (now contexts) (c .context ∷ p .context ∷ q .context ∷ []) (c .s1 ∷ c .s2 ∷ c .s3 ∷ p .s1 ∷ p .s3 ∷ q .s1 ∷ q .s3 ∷ []) ⌝ }
-    ensures { λ ok. ⌜ Decides ok (Instance 30 (saidIn (now (terms .entry)) (now (contexts .entry)) 1 c p ∷ saidIn (now (terms .entry)) (now (contexts .entry)) 1 q q ∷ []) (saidIn (now (terms .entry)) (now (contexts .entry)) 2 c c)) ⌝ }
+    requires { ⌜ RuleInTables (now terms) (now contexts) 30 (p ∷ q ∷ []) c ⌝ }
+    ensures { λ ok. ⌜ Decides ok (FollowsPlaced (now (terms .entry)) (now (contexts .entry)) 30 (p ∷ q ∷ []) c) ⌝ }
 {
     let f = child(terms, c.s1, 1);
     if extends(terms, contexts, q.context, c.context, p.s3)
         & is_node(terms, c.s1, Node::App(f, p.s1))
         & is_node(terms, f, Node::Lam(q.s1))
     {
-        is_substituted(terms, 0, Put::Row(p.s1), q.s1, c.s2)
-            & is_substituted(terms, 0, Put::Row(p.s1), q.s3, c.s3)
+        is_substituted(terms, 0, Subst::Row(p.s1), q.s1, c.s2)
+            & is_substituted(terms, 0, Subst::Row(p.s1), q.s3, c.s3)
     } else {
         false
     }
@@ -251,8 +248,8 @@ pub fn e_projpair1(
     q: LineJudgment,
     r: LineJudgment,
 ) -> bool
-    requires { ⌜ Given (now terms) (c .s1 ∷ c .s2 ∷ c .s3 ∷ p .s1 ∷ p .s3 ∷ q .s1 ∷ q .s3 ∷ r .s1 ∷ r .s3 ∷ []) ⌝ }
-    ensures { λ ok. ⌜ ((G : Context) → Decides ok (Instance 31 (says (now (terms .entry)) 1 G p ∷ says (now (terms .entry)) 1 G q ∷ says (now (terms .entry)) 1 G r ∷ []) (says (now (terms .entry)) 2 G c))) ⌝ }
+    requires { ⌜ RowsInTable (now terms) (ruleSubjects 31 (p ∷ q ∷ r ∷ []) c) ⌝ }
+    ensures { λ ok. ⌜ DecidesInEvery ok (now (terms .entry)) 31 (p ∷ q ∷ r ∷ []) c ⌝ }
 {
     let b = child(terms, r.s1, 2);
     let d = child(terms, c.s1, 1);
@@ -263,7 +260,7 @@ pub fn e_projpair1(
         & same_term(terms, c.s2, p.s1)
         & same_term(terms, c.s3, p.s3)
     {
-        is_substituted(terms, 0, Put::Row(p.s1), b, q.s3)
+        is_substituted(terms, 0, Subst::Row(p.s1), b, q.s3)
     } else {
         false
     }
@@ -277,8 +274,8 @@ pub fn e_projpair2(
     q: LineJudgment,
     r: LineJudgment,
 ) -> bool
-    requires { ⌜ Given (now terms) (c .s1 ∷ c .s2 ∷ c .s3 ∷ p .s1 ∷ p .s3 ∷ q .s1 ∷ q .s3 ∷ r .s1 ∷ r .s3 ∷ []) ⌝ }
-    ensures { λ ok. ⌜ ((G : Context) → Decides ok (Instance 32 (says (now (terms .entry)) 1 G p ∷ says (now (terms .entry)) 1 G q ∷ says (now (terms .entry)) 1 G r ∷ []) (says (now (terms .entry)) 2 G c))) ⌝ }
+    requires { ⌜ RowsInTable (now terms) (ruleSubjects 32 (p ∷ q ∷ r ∷ []) c) ⌝ }
+    ensures { λ ok. ⌜ DecidesInEvery ok (now (terms .entry)) 32 (p ∷ q ∷ r ∷ []) c ⌝ }
 {
     let b = child(terms, r.s1, 2);
     let d = child(terms, c.s1, 1);
@@ -289,7 +286,7 @@ pub fn e_projpair2(
         & same_term(terms, c.s2, q.s1)
         & same_term(terms, c.s3, q.s3)
     {
-        is_substituted(terms, 0, Put::Row(p.s1), b, q.s3)
+        is_substituted(terms, 0, Subst::Row(p.s1), b, q.s3)
     } else {
         false
     }
@@ -303,8 +300,8 @@ pub fn e_indzero(
     p: LineJudgment,
     q: LineJudgment,
 ) -> bool
-    requires { ⌜ GivenRows (now terms) (now contexts) (c .context ∷ p .context ∷ q .context ∷ []) (c .s1 ∷ c .s2 ∷ c .s3 ∷ p .s1 ∷ p .s3 ∷ q .s1 ∷ q .s3 ∷ []) ⌝ }
-    ensures { λ ok. ⌜ Decides ok (Instance 33 (saidIn (now (terms .entry)) (now (contexts .entry)) 1 c p ∷ saidIn (now (terms .entry)) (now (contexts .entry)) 1 q q ∷ []) (saidIn (now (terms .entry)) (now (contexts .entry)) 2 c c)) ⌝ }
+    requires { ⌜ RuleInTables (now terms) (now contexts) 33 (p ∷ q ∷ []) c ⌝ }
+    ensures { λ ok. ⌜ Decides ok (FollowsPlaced (now (terms .entry)) (now (contexts .entry)) 33 (p ∷ q ∷ []) c) ⌝ }
 {
     let m = child(terms, c.s1, 1);
     let z = child(terms, c.s1, 2);
@@ -314,8 +311,8 @@ pub fn e_indzero(
         & same_term(terms, c.s2, p.s1)
         & same_term(terms, c.s3, p.s3)
     {
-        is_substituted(terms, 0, Put::Zero, m, p.s3)
-            & is_substituted(terms, 0, Put::OuterSucc, m, q.s3)
+        is_substituted(terms, 0, Subst::Zero, m, p.s3)
+            & is_substituted(terms, 0, Subst::OuterSucc, m, q.s3)
     } else {
         false
     }
@@ -330,8 +327,8 @@ pub fn e_indsuc(
     q: LineJudgment,
     r: LineJudgment,
 ) -> bool
-    requires { ⌜ GivenRows (now terms) (now contexts) (c .context ∷ p .context ∷ q .context ∷ r .context ∷ []) (c .s1 ∷ c .s2 ∷ c .s3 ∷ p .s1 ∷ p .s3 ∷ q .s1 ∷ q .s3 ∷ r .s1 ∷ r .s3 ∷ []) ⌝ }
-    ensures { λ ok. ⌜ Decides ok (Instance 34 (saidIn (now (terms .entry)) (now (contexts .entry)) 1 c p ∷ saidIn (now (terms .entry)) (now (contexts .entry)) 1 c q ∷ saidIn (now (terms .entry)) (now (contexts .entry)) 1 r r ∷ []) (saidIn (now (terms .entry)) (now (contexts .entry)) 2 c c)) ⌝ }
+    requires { ⌜ RuleInTables (now terms) (now contexts) 34 (p ∷ q ∷ r ∷ []) c ⌝ }
+    ensures { λ ok. ⌜ Decides ok (FollowsPlaced (now (terms .entry)) (now (contexts .entry)) 34 (p ∷ q ∷ r ∷ []) c) ⌝ }
 {
     let m = child(terms, c.s1, 1);
     let z = child(terms, c.s1, 2);
@@ -340,12 +337,12 @@ pub fn e_indsuc(
         & is_node(terms, z, Node::Succ(p.s1))
         & is_node(terms, p.s3, Node::Nat)
     {
-        is_substituted(terms, 0, Put::Zero, m, q.s3)
-            & is_substituted(terms, 0, Put::OuterSucc, m, r.s3)
+        is_substituted(terms, 0, Subst::Zero, m, q.s3)
+            & is_substituted(terms, 0, Subst::OuterSucc, m, r.s3)
             & is_substituted(
                 terms,
                 0,
-                Put::Both {
+                Subst::Both {
                     p: m,
                     a: p.s1,
                     b: q.s1,
@@ -354,7 +351,7 @@ pub fn e_indsuc(
                 r.s1,
                 c.s2,
             )
-            & is_substituted(terms, 0, Put::Row(z), m, c.s3)
+            & is_substituted(terms, 0, Subst::Row(z), m, c.s3)
     } else {
         false
     }

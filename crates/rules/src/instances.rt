@@ -49,7 +49,8 @@ use crate::wellformed::wf_nil;
 ghost use mathlib.Core.List.{[], _∷_};
 ghost use Prim.Native.Nat.{_≤_};
 ghost use Rattle.terms.specs.Decides.{Decides};
-ghost use Rattle.rules.specs.Stated.{Cited, Shaped, Follows};
+ghost use Rattle.rules.specs.Stated.{Follows};
+ghost use Rattle.rules.specs.RuleChecks.{LineInTables, Shaped};
 
 // Rules 1 to 2, which conclude form 0.
 fn wellformed_instance(
@@ -62,7 +63,9 @@ fn wellformed_instance(
     r: LineJudgment,
     s: LineJudgment,
 ) -> bool
-    requires { ⌜ Cited (now terms) (now contexts) rule (p ∷ q ∷ r ∷ s ∷ []) c × Shaped (now terms) (now contexts) rule (p ∷ q ∷ r ∷ s ∷ []) c × (1 ≤ rule) × (rule ≤ 2) ⌝ }
+    requires { ⌜ LineInTables (now terms) (now contexts) rule (p ∷ q ∷ r ∷ s ∷ []) c ⌝ }
+    requires { ⌜ Shaped (now terms) (now contexts) rule (p ∷ q ∷ r ∷ s ∷ []) c ⌝ }
+    requires { ⌜ (1 ≤ rule) × (rule ≤ 2) ⌝ }
     ensures { λ ok. ⌜ Decides ok (Follows (now (terms .entry)) (now (contexts .entry)) rule (p ∷ q ∷ r ∷ s ∷ []) c) ⌝ }
 {
     match rule {
@@ -83,7 +86,9 @@ fn typing_instance(
     r: LineJudgment,
     s: LineJudgment,
 ) -> bool
-    requires { ⌜ Cited (now terms) (now contexts) rule (p ∷ q ∷ r ∷ s ∷ []) c × Shaped (now terms) (now contexts) rule (p ∷ q ∷ r ∷ s ∷ []) c × (3 ≤ rule) × (rule ≤ 16) ⌝ }
+    requires { ⌜ LineInTables (now terms) (now contexts) rule (p ∷ q ∷ r ∷ s ∷ []) c ⌝ }
+    requires { ⌜ Shaped (now terms) (now contexts) rule (p ∷ q ∷ r ∷ s ∷ []) c ⌝ }
+    requires { ⌜ (3 ≤ rule) × (rule ≤ 16) ⌝ }
     ensures { λ ok. ⌜ Decides ok (Follows (now (terms .entry)) (now (contexts .entry)) rule (p ∷ q ∷ r ∷ s ∷ []) c) ⌝ }
 {
     match rule {
@@ -116,7 +121,9 @@ fn equality_instance(
     r: LineJudgment,
     s: LineJudgment,
 ) -> bool
-    requires { ⌜ Cited (now terms) (now contexts) rule (p ∷ q ∷ r ∷ s ∷ []) c × Shaped (now terms) (now contexts) rule (p ∷ q ∷ r ∷ s ∷ []) c × (17 ≤ rule) × (rule ≤ 34) ⌝ }
+    requires { ⌜ LineInTables (now terms) (now contexts) rule (p ∷ q ∷ r ∷ s ∷ []) c ⌝ }
+    requires { ⌜ Shaped (now terms) (now contexts) rule (p ∷ q ∷ r ∷ s ∷ []) c ⌝ }
+    requires { ⌜ (17 ≤ rule) × (rule ≤ 34) ⌝ }
     ensures { λ ok. ⌜ Decides ok (Follows (now (terms .entry)) (now (contexts .entry)) rule (p ∷ q ∷ r ∷ s ∷ []) c) ⌝ }
 {
     match rule {
@@ -153,7 +160,9 @@ fn subtyping_instance(
     r: LineJudgment,
     s: LineJudgment,
 ) -> bool
-    requires { ⌜ Cited (now terms) (now contexts) rule (p ∷ q ∷ r ∷ s ∷ []) c × Shaped (now terms) (now contexts) rule (p ∷ q ∷ r ∷ s ∷ []) c × (35 ≤ rule) × (rule ≤ 43) ⌝ }
+    requires { ⌜ LineInTables (now terms) (now contexts) rule (p ∷ q ∷ r ∷ s ∷ []) c ⌝ }
+    requires { ⌜ Shaped (now terms) (now contexts) rule (p ∷ q ∷ r ∷ s ∷ []) c ⌝ }
+    requires { ⌜ (35 ≤ rule) ⌝ }
     ensures { λ ok. ⌜ Decides ok (Follows (now (terms .entry)) (now (contexts .entry)) rule (p ∷ q ∷ r ∷ s ∷ []) c) ⌝ }
 {
     match rule {
@@ -170,7 +179,8 @@ fn subtyping_instance(
     }
 }
 
-// Does the judgment `c` follow by the rule from those of `p`, `q`, `r`, `s` that the rule uses? The others are not looked at.
+// Does the judgment `c` follow by the rule from those of `p`, `q`, `r`, `s` that the rule uses? The others are not
+// looked at.
 pub fn is_instance(
     terms: &[u8],
     contexts: &[u8],
@@ -181,7 +191,7 @@ pub fn is_instance(
     r: LineJudgment,
     s: LineJudgment,
 ) -> bool
-    requires { ⌜ Cited (now terms) (now contexts) rule (p ∷ q ∷ r ∷ s ∷ []) c ⌝ }
+    requires { ⌜ LineInTables (now terms) (now contexts) rule (p ∷ q ∷ r ∷ s ∷ []) c ⌝ }
     ensures { λ ok. ⌜ Decides ok (Follows (now (terms .entry)) (now (contexts .entry)) rule (p ∷ q ∷ r ∷ s ∷ []) c) ⌝ }
 {
     if shaped(terms, contexts, rule, c, p, q, r, s) {

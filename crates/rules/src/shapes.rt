@@ -3,17 +3,18 @@ use crate::contexts::parent;
 use crate::judgments::LineJudgment;
 use crate::table::rule_row;
 ghost use mathlib.Core.Path.{_≡_};
-ghost use mathlib.Core.List.{[], _∷_, map};
+ghost use mathlib.Core.List.{[], _∷_};
 ghost use Prim.Native.Nat.{_≤_};
 ghost use Rattle.terms.specs.Decides.{Decides};
-ghost use Rattle.rules.specs.Contexts.{context, GivenContexts};
-ghost use Rattle.rules.specs.RuleTable.{countedFrom, Adds};
-ghost use Rattle.rules.specs.Stated.{usedPremises, Shaped};
+ghost use Rattle.rules.specs.Contexts.{context, ContextsInTable};
+ghost use Rattle.rules.specs.RuleTable.{IsRule, countedFrom, Adds};
+ghost use Rattle.rules.specs.Stated.{usedPremises};
+ghost use Rattle.rules.specs.RuleChecks.{Shaped, ruleContexts};
 
-// Is context `n` the context `base` with `count` entries added? It goes up by parents; the tables are well formed, so that equal
-// contexts have equal numbers.
+// Is context `n` the context `base` with `count` entries added? It goes up by parents; the tables are well formed, so
+// that equal contexts have equal numbers.
 fn adds(terms: &[u8], contexts: &[u8], n: usize, base: usize, count: usize) -> bool
-    requires { ⌜ GivenContexts (now terms) (now contexts) (n ∷ base ∷ []) ⌝ }
+    requires { ⌜ ContextsInTable (now terms) (now contexts) (n ∷ base ∷ []) ⌝ }
     ensures { λ r. ⌜ Decides r (Adds (context (now (terms .entry)) (now (contexts .entry)) n) (context (now (terms .entry)) (now (contexts .entry)) base) count) ⌝ }
 {
     let mut at = n;
@@ -28,9 +29,10 @@ fn adds(terms: &[u8], contexts: &[u8], n: usize, base: usize, count: usize) -> b
     at == base
 }
 
-// The context that the rule's added entries are counted from, where the conclusion's is `n`. The empty context has no parent.
+// The context that the rule's added entries are counted from, where the conclusion's is `n`. The empty context has no
+// parent.
 fn counted_from(terms: &[u8], contexts: &[u8], rule: usize, n: usize) -> usize
-    requires { ⌜ GivenContexts (now terms) (now contexts) (n ∷ []) ⌝ }
+    requires { ⌜ ContextsInTable (now terms) (now contexts) (n ∷ []) ⌝ }
     ensures value { λ r. ⌜ context (now (terms .entry)) (now (contexts .entry)) r ≡ countedFrom rule (context (now (terms .entry)) (now (contexts .entry)) n) ⌝ }
     ensures range { λ r. ⌜ r ≤ n ⌝ }
 {
@@ -43,8 +45,8 @@ fn counted_from(terms: &[u8], contexts: &[u8], rule: usize, n: usize) -> usize
     parent(contexts, n)
 }
 
-// Has the premise the form, and has its context the entries added to the context `base`? A form of 255 asks for no premise, and `p` is
-// not looked at.
+// Has the premise the form, and has its context the entries added to the context `base`? A form of 255 asks for no
+// premise, and `p` is not looked at.
 fn fits_if_used(
     terms: &[u8],
     contexts: &[u8],
@@ -53,7 +55,7 @@ fn fits_if_used(
     added: usize,
     p: LineJudgment,
 ) -> bool
-    requires { ⌜ ((form ≡ 255 → ⊥) → GivenContexts (now terms) (now contexts) (p .context ∷ base ∷ [])) ⌝ }
+    requires { ⌜ ((form ≡ 255 → ⊥) → ContextsInTable (now terms) (now contexts) (p .context ∷ base ∷ [])) ⌝ }
     ensures { λ r. ⌜ Decides r ((form ≡ 255 → ⊥) → (p .form ≡ form) × Adds (context (now (terms .entry)) (now (contexts .entry)) (p .context)) (context (now (terms .entry)) (now (contexts .entry)) base) added) ⌝ }
 {
     if form == 255 {
@@ -73,8 +75,8 @@ pub fn shaped(
     r: LineJudgment,
     s: LineJudgment,
 ) -> bool
-    requires { ⌜ (1 ≤ rule) × (rule ≤ 43) ⌝ }
-    requires { ⌜ GivenContexts (now terms) (now contexts) (c .context ∷ map (λ k. k .context) (usedPremises rule (p ∷ q ∷ r ∷ s ∷ []))) ⌝ }
+    requires { ⌜ IsRule rule ⌝ }
+    requires { ⌜ ContextsInTable (now terms) (now contexts) (ruleContexts (usedPremises rule (p ∷ q ∷ r ∷ s ∷ [])) c) ⌝ }
     ensures { λ fit. ⌜ Decides fit (Shaped (now (terms .entry)) (now (contexts .entry)) rule (p ∷ q ∷ r ∷ s ∷ []) c) ⌝ }
 {
     let row = rule_row(rule);

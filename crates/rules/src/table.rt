@@ -1,8 +1,11 @@
-// The rule table: ten numbers for each rule, rules counted from 1. They are the conclusion's form, the premise count, four premise
-// forms, and four counts of entries that a premise's context adds; 255 where there is no premise.
+// The rule table: ten numbers for each rule, rules counted from 1. They are the conclusion's form, the premise count,
+// four premise forms, and four counts of entries that a premise's context adds; 255 where there is no premise.
 ghost use mathlib.Core.Path.{_≡_};
 ghost use Prim.Native.Nat.{_<_, _≤_};
-ghost use Rattle.rules.specs.RuleTable.{ruleTable, tableAt, premiseCount, ruleRow, formOf};
+ghost use Rattle.rules.specs.RuleTable.{IsRule, ruleKnown, ruleTable, tableAt, premiseCount, ruleRow, formOf};
+
+// Rules count from 1.
+const RULE_COUNT: usize = 43;
 
 const TABLE: [u8; 430] = [
     // 1 WF-NIL
@@ -480,8 +483,8 @@ const TABLE: [u8; 430] = [
     255,
 ];
 
-// What a rule asks of its premises: how many there are, the forms of four, and how many entries their contexts add; 255 where there
-// is no premise.
+// What a rule asks of its premises: how many there are, the forms of four, and how many entries their contexts add; 255
+// where there is no premise.
 pub struct RuleRow {
     pub count: usize,
     pub form0: usize,
@@ -494,18 +497,27 @@ pub struct RuleRow {
     pub added3: usize,
 }
 
-// The number in a rule's row, columns counted from 0. The table is lent, because each use of the constant makes all its bytes anew.
+// Is there such a rule?
+pub fn is_rule(rule: usize) -> bool
+    ensures { λ r. ⌜ r ≡ ruleKnown rule ⌝ }
+{
+    (1 <= rule) & (rule <= RULE_COUNT)
+}
+
+// The number in a rule's row, columns counted from 0. The table is lent, because each use of the constant makes all its
+// bytes anew.
 fn table_at(table: &[u8; 430], rule: usize, column: usize) -> usize
     requires { ⌜ now table ≡ ruleTable ⌝ }
-    requires { ⌜ (1 ≤ rule) × (rule ≤ 43) × (column < 10) ⌝ }
+    requires { ⌜ IsRule rule × (column < 10) ⌝ }
     ensures { λ r. ⌜ r ≡ tableAt rule column ⌝ }
 {
     table[10 * (rule - 1) + column] as usize
 }
 
-// What the rule asks of its premises. The compiler makes a constant array anew wherever one is used: here once for all nine reads.
+// What the rule asks of its premises. The compiler makes a constant array anew wherever one is used: here once for all
+// nine reads.
 pub fn rule_row(rule: usize) -> RuleRow
-    requires { ⌜ (1 ≤ rule) × (rule ≤ 43) ⌝ }
+    requires { ⌜ IsRule rule ⌝ }
     ensures { λ r. ⌜ r ≡ ruleRow rule ⌝ }
 {
     let table = &TABLE;
@@ -524,7 +536,7 @@ pub fn rule_row(rule: usize) -> RuleRow
 
 // How many premises the rule has.
 pub fn premise_count(rule: usize) -> usize
-    requires { ⌜ (1 ≤ rule) × (rule ≤ 43) ⌝ }
+    requires { ⌜ IsRule rule ⌝ }
     ensures value { λ r. ⌜ r ≡ premiseCount rule ⌝ }
     ensures range { λ r. ⌜ r ≤ 4 ⌝ }
 {
@@ -540,7 +552,7 @@ pub fn conclusion_form(rule: usize) -> usize
         1..=2 => 0,
         3..=16 => 1,
         17..=34 => 2,
-        35..=43 => 3,
+        35..=RULE_COUNT => 3,
         _ => 255,
     }
 }

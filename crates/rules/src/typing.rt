@@ -8,7 +8,7 @@ use crate::contexts::extends_nat_then;
 use crate::judgments::LineJudgment;
 use crate::universes::is_next_universe;
 use crate::universes::is_universe;
-use terms::images::Put;
+use terms::images::Subst;
 use terms::images::is_shifted;
 use terms::images::is_substituted;
 use terms::nodes::Node;
@@ -18,16 +18,13 @@ use terms::nodes::number;
 use terms::nodes::same_term;
 ghost use mathlib.Core.List.{[], _∷_};
 ghost use Rattle.terms.specs.Decides.{Decides};
-ghost use Rattle.terms.specs.Table.{Given};
-ghost use Rattle.rules.specs.Judgment.{Context, wf};
-ghost use Rattle.rules.specs.Contexts.{context, GivenRows};
-ghost use Rattle.rules.specs.Instance.{Instance};
-ghost use Rattle.rules.specs.Stated.{saidIn, says};
+ghost use Rattle.terms.specs.Table.{RowsInTable};
+ghost use Rattle.rules.specs.RuleChecks.{ruleSubjects, RuleInTables, FollowsPlaced, DecidesInEvery};
 
 // WT-VAR: the type is the entry's, raised past the entries from it on.
 pub fn wt_var(terms: &[u8], contexts: &[u8], c: LineJudgment) -> bool
-    requires { ⌜ GivenRows (now terms) (now contexts) (c .context ∷ []) (c .s1 ∷ c .s3 ∷ []) ⌝ }
-    ensures { λ ok. ⌜ Decides ok (Instance 3 (wf (context (now (terms .entry)) (now (contexts .entry)) (c .context)) ∷ []) (saidIn (now (terms .entry)) (now (contexts .entry)) 1 c c)) ⌝ }
+    requires { ⌜ RuleInTables (now terms) (now contexts) 3 [] c ⌝ }
+    ensures { λ ok. ⌜ ((p : LineJudgment) → Decides ok (FollowsPlaced (now (terms .entry)) (now (contexts .entry)) 3 (p ∷ []) c)) ⌝ }
 {
     let x = number(terms, c.s1);
     if is_node(terms, c.s1, Node::Var(x)) {
@@ -48,8 +45,8 @@ pub fn wt_pi(
     p: LineJudgment,
     q: LineJudgment,
 ) -> bool
-    requires { ⌜ GivenRows (now terms) (now contexts) (c .context ∷ p .context ∷ q .context ∷ []) (c .s1 ∷ c .s3 ∷ p .s1 ∷ p .s3 ∷ q .s1 ∷ q .s3 ∷ []) ⌝ }
-    ensures { λ ok. ⌜ Decides ok (Instance 4 (saidIn (now (terms .entry)) (now (contexts .entry)) 1 c p ∷ saidIn (now (terms .entry)) (now (contexts .entry)) 1 q q ∷ []) (saidIn (now (terms .entry)) (now (contexts .entry)) 1 c c)) ⌝ }
+    requires { ⌜ RuleInTables (now terms) (now contexts) 4 (p ∷ q ∷ []) c ⌝ }
+    ensures { λ ok. ⌜ Decides ok (FollowsPlaced (now (terms .entry)) (now (contexts .entry)) 4 (p ∷ q ∷ []) c) ⌝ }
 {
     extends(terms, contexts, q.context, c.context, p.s1)
         & is_node(terms, c.s1, Node::Pi(p.s1, q.s1))
@@ -60,8 +57,8 @@ pub fn wt_pi(
 
 // WT-ABS
 pub fn wt_abs(terms: &[u8], contexts: &[u8], c: LineJudgment, p: LineJudgment) -> bool
-    requires { ⌜ GivenRows (now terms) (now contexts) (c .context ∷ p .context ∷ []) (c .s1 ∷ c .s3 ∷ p .s1 ∷ p .s3 ∷ []) ⌝ }
-    ensures { λ ok. ⌜ Decides ok (Instance 5 (saidIn (now (terms .entry)) (now (contexts .entry)) 1 p p ∷ []) (saidIn (now (terms .entry)) (now (contexts .entry)) 1 c c)) ⌝ }
+    requires { ⌜ RuleInTables (now terms) (now contexts) 5 (p ∷ []) c ⌝ }
+    ensures { λ ok. ⌜ Decides ok (FollowsPlaced (now (terms .entry)) (now (contexts .entry)) 5 (p ∷ []) c) ⌝ }
 {
     let a = child(terms, c.s3, 1);
     extends(terms, contexts, p.context, c.context, a)
@@ -71,12 +68,12 @@ pub fn wt_abs(terms: &[u8], contexts: &[u8], c: LineJudgment, p: LineJudgment) -
 
 // WT-APP
 pub fn wt_app(terms: &[u8], c: LineJudgment, p: LineJudgment, q: LineJudgment) -> bool
-    requires { ⌜ Given (now terms) (c .s1 ∷ c .s3 ∷ p .s1 ∷ p .s3 ∷ q .s1 ∷ q .s3 ∷ []) ⌝ }
-    ensures { λ ok. ⌜ ((G : Context) → Decides ok (Instance 6 (says (now (terms .entry)) 1 G p ∷ says (now (terms .entry)) 1 G q ∷ []) (says (now (terms .entry)) 1 G c))) ⌝ }
+    requires { ⌜ RowsInTable (now terms) (ruleSubjects 6 (p ∷ q ∷ []) c) ⌝ }
+    ensures { λ ok. ⌜ DecidesInEvery ok (now (terms .entry)) 6 (p ∷ q ∷ []) c ⌝ }
 {
     let b = child(terms, p.s3, 2);
     if is_node(terms, p.s3, Node::Pi(q.s3, b)) & is_node(terms, c.s1, Node::App(p.s1, q.s1)) {
-        is_substituted(terms, 0, Put::Row(q.s1), b, c.s3)
+        is_substituted(terms, 0, Subst::Row(q.s1), b, c.s3)
     } else {
         false
     }
@@ -84,8 +81,8 @@ pub fn wt_app(terms: &[u8], c: LineJudgment, p: LineJudgment, q: LineJudgment) -
 
 // WT-UNIV
 pub fn wt_univ(terms: &[u8], c: LineJudgment) -> bool
-    requires { ⌜ Given (now terms) (c .s1 ∷ c .s3 ∷ []) ⌝ }
-    ensures { λ ok. ⌜ ((G : Context) → Decides ok (Instance 7 (wf G ∷ []) (says (now (terms .entry)) 1 G c))) ⌝ }
+    requires { ⌜ RowsInTable (now terms) (ruleSubjects 7 [] c) ⌝ }
+    ensures { λ ok. ⌜ ((p : LineJudgment) → DecidesInEvery ok (now (terms .entry)) 7 (p ∷ []) c) ⌝ }
 {
     is_next_universe(terms, c.s1, c.s3)
 }
@@ -98,8 +95,8 @@ pub fn wt_sig(
     p: LineJudgment,
     q: LineJudgment,
 ) -> bool
-    requires { ⌜ GivenRows (now terms) (now contexts) (c .context ∷ p .context ∷ q .context ∷ []) (c .s1 ∷ c .s3 ∷ p .s1 ∷ p .s3 ∷ q .s1 ∷ q .s3 ∷ []) ⌝ }
-    ensures { λ ok. ⌜ Decides ok (Instance 8 (saidIn (now (terms .entry)) (now (contexts .entry)) 1 c p ∷ saidIn (now (terms .entry)) (now (contexts .entry)) 1 q q ∷ []) (saidIn (now (terms .entry)) (now (contexts .entry)) 1 c c)) ⌝ }
+    requires { ⌜ RuleInTables (now terms) (now contexts) 8 (p ∷ q ∷ []) c ⌝ }
+    ensures { λ ok. ⌜ Decides ok (FollowsPlaced (now (terms .entry)) (now (contexts .entry)) 8 (p ∷ q ∷ []) c) ⌝ }
 {
     extends(terms, contexts, q.context, c.context, p.s1)
         & is_node(terms, c.s1, Node::Sigma(p.s1, q.s1))
@@ -116,8 +113,8 @@ pub fn wt_pair(
     q: LineJudgment,
     r: LineJudgment,
 ) -> bool
-    requires { ⌜ Given (now terms) (c .s1 ∷ c .s3 ∷ p .s1 ∷ p .s3 ∷ q .s1 ∷ q .s3 ∷ r .s1 ∷ r .s3 ∷ []) ⌝ }
-    ensures { λ ok. ⌜ ((G : Context) → Decides ok (Instance 9 (says (now (terms .entry)) 1 G p ∷ says (now (terms .entry)) 1 G q ∷ says (now (terms .entry)) 1 G r ∷ []) (says (now (terms .entry)) 1 G c))) ⌝ }
+    requires { ⌜ RowsInTable (now terms) (ruleSubjects 9 (p ∷ q ∷ r ∷ []) c) ⌝ }
+    ensures { λ ok. ⌜ DecidesInEvery ok (now (terms .entry)) 9 (p ∷ q ∷ r ∷ []) c ⌝ }
 {
     let b = child(terms, c.s3, 2);
     if is_node(terms, c.s1, Node::Pair(p.s1, q.s1))
@@ -125,7 +122,7 @@ pub fn wt_pair(
         & same_term(terms, r.s1, c.s3)
         & is_universe(terms, r.s3)
     {
-        is_substituted(terms, 0, Put::Row(p.s1), b, q.s3)
+        is_substituted(terms, 0, Subst::Row(p.s1), b, q.s3)
     } else {
         false
     }
@@ -133,8 +130,8 @@ pub fn wt_pair(
 
 // WT-PROJ1
 pub fn wt_proj1(terms: &[u8], c: LineJudgment, p: LineJudgment) -> bool
-    requires { ⌜ Given (now terms) (c .s1 ∷ c .s3 ∷ p .s1 ∷ p .s3 ∷ []) ⌝ }
-    ensures { λ ok. ⌜ ((G : Context) → Decides ok (Instance 10 (says (now (terms .entry)) 1 G p ∷ []) (says (now (terms .entry)) 1 G c))) ⌝ }
+    requires { ⌜ RowsInTable (now terms) (ruleSubjects 10 (p ∷ []) c) ⌝ }
+    ensures { λ ok. ⌜ DecidesInEvery ok (now (terms .entry)) 10 (p ∷ []) c ⌝ }
 {
     let b = child(terms, p.s3, 2);
     is_node(terms, c.s1, Node::First(p.s1)) & is_node(terms, p.s3, Node::Sigma(c.s3, b))
@@ -142,13 +139,13 @@ pub fn wt_proj1(terms: &[u8], c: LineJudgment, p: LineJudgment) -> bool
 
 // WT-PROJ2
 pub fn wt_proj2(terms: &[u8], c: LineJudgment, p: LineJudgment) -> bool
-    requires { ⌜ Given (now terms) (c .s1 ∷ c .s3 ∷ p .s1 ∷ p .s3 ∷ []) ⌝ }
-    ensures { λ ok. ⌜ ((G : Context) → Decides ok (Instance 11 (says (now (terms .entry)) 1 G p ∷ []) (says (now (terms .entry)) 1 G c))) ⌝ }
+    requires { ⌜ RowsInTable (now terms) (ruleSubjects 11 (p ∷ []) c) ⌝ }
+    ensures { λ ok. ⌜ DecidesInEvery ok (now (terms .entry)) 11 (p ∷ []) c ⌝ }
 {
     let a = child(terms, p.s3, 1);
     let b = child(terms, p.s3, 2);
     if is_node(terms, c.s1, Node::Second(p.s1)) & is_node(terms, p.s3, Node::Sigma(a, b)) {
-        is_substituted(terms, 0, Put::First(p.s1), b, c.s3)
+        is_substituted(terms, 0, Subst::First(p.s1), b, c.s3)
     } else {
         false
     }
@@ -156,24 +153,24 @@ pub fn wt_proj2(terms: &[u8], c: LineJudgment, p: LineJudgment) -> bool
 
 // WT-NAT
 pub fn wt_nat(terms: &[u8], c: LineJudgment) -> bool
-    requires { ⌜ Given (now terms) (c .s1 ∷ c .s3 ∷ []) ⌝ }
-    ensures { λ ok. ⌜ ((G : Context) → Decides ok (Instance 12 (wf G ∷ []) (says (now (terms .entry)) 1 G c))) ⌝ }
+    requires { ⌜ RowsInTable (now terms) (ruleSubjects 12 [] c) ⌝ }
+    ensures { λ ok. ⌜ ((p : LineJudgment) → DecidesInEvery ok (now (terms .entry)) 12 (p ∷ []) c) ⌝ }
 {
     is_node(terms, c.s1, Node::Nat) & is_universe(terms, c.s3)
 }
 
 // WT-ZERO
 pub fn wt_zero(terms: &[u8], c: LineJudgment) -> bool
-    requires { ⌜ Given (now terms) (c .s1 ∷ c .s3 ∷ []) ⌝ }
-    ensures { λ ok. ⌜ ((G : Context) → Decides ok (Instance 13 (wf G ∷ []) (says (now (terms .entry)) 1 G c))) ⌝ }
+    requires { ⌜ RowsInTable (now terms) (ruleSubjects 13 [] c) ⌝ }
+    ensures { λ ok. ⌜ ((p : LineJudgment) → DecidesInEvery ok (now (terms .entry)) 13 (p ∷ []) c) ⌝ }
 {
     is_node(terms, c.s1, Node::Zero) & is_node(terms, c.s3, Node::Nat)
 }
 
 // WT-SUCC
 pub fn wt_succ(terms: &[u8], c: LineJudgment, p: LineJudgment) -> bool
-    requires { ⌜ Given (now terms) (c .s1 ∷ c .s3 ∷ p .s1 ∷ p .s3 ∷ []) ⌝ }
-    ensures { λ ok. ⌜ ((G : Context) → Decides ok (Instance 14 (says (now (terms .entry)) 1 G p ∷ []) (says (now (terms .entry)) 1 G c))) ⌝ }
+    requires { ⌜ RowsInTable (now terms) (ruleSubjects 14 (p ∷ []) c) ⌝ }
+    ensures { λ ok. ⌜ DecidesInEvery ok (now (terms .entry)) 14 (p ∷ []) c ⌝ }
 {
     is_node(terms, c.s1, Node::Succ(p.s1))
         & is_node(terms, p.s3, Node::Nat)
@@ -190,8 +187,8 @@ pub fn wt_ind(
     r: LineJudgment,
     s: LineJudgment,
 ) -> bool
-    requires { ⌜ GivenRows (now terms) (now contexts) (c .context ∷ p .context ∷ q .context ∷ r .context ∷ s .context ∷ []) (c .s1 ∷ c .s3 ∷ p .s1 ∷ p .s3 ∷ q .s1 ∷ q .s3 ∷ r .s1 ∷ r .s3 ∷ s .s1 ∷ s .s3 ∷ []) ⌝ }
-    ensures { λ ok. ⌜ Decides ok (Instance 15 (saidIn (now (terms .entry)) (now (contexts .entry)) 1 p p ∷ saidIn (now (terms .entry)) (now (contexts .entry)) 1 c q ∷ saidIn (now (terms .entry)) (now (contexts .entry)) 1 c r ∷ saidIn (now (terms .entry)) (now (contexts .entry)) 1 s s ∷ []) (saidIn (now (terms .entry)) (now (contexts .entry)) 1 c c)) ⌝ }
+    requires { ⌜ RuleInTables (now terms) (now contexts) 15 (p ∷ q ∷ r ∷ s ∷ []) c ⌝ }
+    ensures { λ ok. ⌜ Decides ok (FollowsPlaced (now (terms .entry)) (now (contexts .entry)) 15 (p ∷ q ∷ r ∷ s ∷ []) c) ⌝ }
 {
     if extends_nat(terms, contexts, p.context, c.context)
         & extends_nat_then(terms, contexts, s.context, c.context, p.s1)
@@ -199,9 +196,9 @@ pub fn wt_ind(
         & is_node(terms, q.s3, Node::Nat)
         & is_node(terms, c.s1, Node::Ind(p.s1, q.s1, r.s1, s.s1))
     {
-        is_substituted(terms, 0, Put::Zero, p.s1, r.s3)
-            & is_substituted(terms, 0, Put::OuterSucc, p.s1, s.s3)
-            & is_substituted(terms, 0, Put::Row(q.s1), p.s1, c.s3)
+        is_substituted(terms, 0, Subst::Zero, p.s1, r.s3)
+            & is_substituted(terms, 0, Subst::OuterSucc, p.s1, s.s3)
+            & is_substituted(terms, 0, Subst::Row(q.s1), p.s1, c.s3)
     } else {
         false
     }
@@ -209,8 +206,8 @@ pub fn wt_ind(
 
 // WT-CONV
 pub fn wt_conv(terms: &[u8], c: LineJudgment, p: LineJudgment, q: LineJudgment) -> bool
-    requires { ⌜ Given (now terms) (c .s1 ∷ c .s3 ∷ p .s1 ∷ p .s3 ∷ q .s1 ∷ q .s2 ∷ []) ⌝ }
-    ensures { λ ok. ⌜ ((G : Context) → Decides ok (Instance 16 (says (now (terms .entry)) 1 G p ∷ says (now (terms .entry)) 3 G q ∷ []) (says (now (terms .entry)) 1 G c))) ⌝ }
+    requires { ⌜ RowsInTable (now terms) (ruleSubjects 16 (p ∷ q ∷ []) c) ⌝ }
+    ensures { λ ok. ⌜ DecidesInEvery ok (now (terms .entry)) 16 (p ∷ q ∷ []) c ⌝ }
 {
     same_term(terms, c.s1, p.s1) & same_term(terms, q.s1, p.s3) & same_term(terms, c.s3, q.s2)
 }

@@ -5,12 +5,12 @@ use terms::nodes::number;
 ghost use mathlib.Core.List.{[], _∷_};
 ghost use Rattle.terms.specs.Decides.{Decides};
 ghost use Rattle.terms.specs.Rows.{term};
-ghost use Rattle.terms.specs.Table.{Given};
+ghost use Rattle.terms.specs.Table.{RowsInTable};
 ghost use Rattle.rules.specs.Conditions.{IsUniverse, NextUniverse, UniversesRise};
 
 // Does row `n` spell a universe?
 pub fn is_universe(terms: &[u8], n: usize) -> bool
-    requires { ⌜ Given (now terms) (n ∷ []) ⌝ }
+    requires { ⌜ RowsInTable (now terms) (n ∷ []) ⌝ }
     ensures { λ r. ⌜ Decides r (IsUniverse (term (now (terms .entry)) n)) ⌝ }
 {
     is_node(terms, n, Node::Univ(number(terms, n)))
@@ -18,7 +18,7 @@ pub fn is_universe(terms: &[u8], n: usize) -> bool
 
 // Does row `t` spell a universe, and row `u` the next one?
 pub fn is_next_universe(terms: &[u8], t: usize, u: usize) -> bool
-    requires { ⌜ Given (now terms) (t ∷ u ∷ []) ⌝ }
+    requires { ⌜ RowsInTable (now terms) (t ∷ u ∷ []) ⌝ }
     ensures { λ r. ⌜ Decides r (NextUniverse (term (now (terms .entry)) t) (term (now (terms .entry)) u)) ⌝ }
 {
     let level = number(terms, t);
@@ -27,7 +27,7 @@ pub fn is_next_universe(terms: &[u8], t: usize, u: usize) -> bool
 
 // Do rows `t` and `u` spell universes whose levels do not fall?
 pub fn universes_rise(terms: &[u8], t: usize, u: usize) -> bool
-    requires { ⌜ Given (now terms) (t ∷ u ∷ []) ⌝ }
+    requires { ⌜ RowsInTable (now terms) (t ∷ u ∷ []) ⌝ }
     ensures { λ r. ⌜ Decides r (UniversesRise (term (now (terms .entry)) t) (term (now (terms .entry)) u)) ⌝ }
 {
     is_universe(terms, t) & is_universe(terms, u) & (number(terms, t) <= number(terms, u))

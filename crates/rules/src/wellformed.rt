@@ -5,25 +5,23 @@ use crate::judgments::LineJudgment;
 use crate::universes::is_universe;
 use terms::nodes::same_term;
 ghost use mathlib.Core.List.{[], _∷_};
-ghost use lib.ListN.{drop};
 ghost use Rattle.terms.specs.Decides.{Decides};
-ghost use Rattle.rules.specs.Judgment.{wf};
-ghost use Rattle.rules.specs.Contexts.{context, GivenRows};
-ghost use Rattle.rules.specs.Instance.{Instance};
-ghost use Rattle.rules.specs.Stated.{says};
+ghost use Rattle.rules.specs.Subjects.{usedSubjects};
+ghost use Rattle.rules.specs.Contexts.{InTables};
+ghost use Rattle.rules.specs.RuleChecks.{RuleInTables, FollowsPlaced};
 
 // WF-NIL
 pub fn wf_nil(terms: &[u8], contexts: &[u8], c: LineJudgment) -> bool
-    requires { ⌜ GivenRows (now terms) (now contexts) (c .context ∷ []) [] ⌝ }
-    ensures { λ ok. ⌜ Decides ok (Instance 1 [] (wf (context (now (terms .entry)) (now (contexts .entry)) (c .context)))) ⌝ }
+    requires { ⌜ RuleInTables (now terms) (now contexts) 1 [] c ⌝ }
+    ensures { λ ok. ⌜ Decides ok (FollowsPlaced (now (terms .entry)) (now (contexts .entry)) 1 [] c) ⌝ }
 {
     same_context(terms, contexts, c.context, 0)
 }
 
 // WF-CONS: the premises stand in the conclusion's context without its last entry.
 pub fn wf_cons(terms: &[u8], contexts: &[u8], c: LineJudgment, q: LineJudgment) -> bool
-    requires { ⌜ GivenRows (now terms) (now contexts) (c .context ∷ []) (q .s1 ∷ q .s3 ∷ []) ⌝ }
-    ensures { λ ok. ⌜ Decides ok (Instance 2 (wf (drop 1 (context (now (terms .entry)) (now (contexts .entry)) (c .context))) ∷ says (now (terms .entry)) 1 (drop 1 (context (now (terms .entry)) (now (contexts .entry)) (c .context))) q ∷ []) (wf (context (now (terms .entry)) (now (contexts .entry)) (c .context)))) ⌝ }
+    requires { ⌜ InTables (now terms) (now contexts) (c .context ∷ []) (usedSubjects 1 q) ⌝ }
+    ensures { λ ok. ⌜ ((p : LineJudgment) → Decides ok (FollowsPlaced (now (terms .entry)) (now (contexts .entry)) 2 (p ∷ q ∷ []) c)) ⌝ }
 {
     let n = c.context;
     if n == 0 {

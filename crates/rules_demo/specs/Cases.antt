@@ -5,7 +5,7 @@ use Prim.Native.Nat.{ℕ, _+_, _*_, _≤_}
 use Rattle.terms.specs.Table.{TermTable}
 use Rattle.terms.specs.Words.{wordAt}
 use Rattle.rules.specs.Contexts.{ContextTable}
-use Rattle.rules.specs.RuleTable.{formOf}
+use Rattle.rules.specs.RuleTable.{IsRule, formOf}
 use Rattle.rules.specs.Stated.{Numbered, AllNumbered}
 use Rattle.rules.specs.declared.judgments.LineJudgment.{LineJudgment}
 use Rattle.rules_demo.specs.declared.cases.Answer.{Answer}
@@ -35,8 +35,7 @@ pub record Tables (terms : List ℕ) (termCount : ℕ) (contexts : List ℕ) (co
 
 -- a rule, its form, and numbers in range: what is asked of a line and of the lines that it cites
 pub record Case (termCount count rule : ℕ) (premises : List LineJudgment) (c : LineJudgment) : Type 0 where
-  pub low : 1 ≤ rule
-  pub high : rule ≤ 43
+  pub known : IsRule rule
   pub concludes : c .form ≡ formOf rule
   pub conclusion : Numbered termCount count c
   pub all : AllNumbered termCount count premises

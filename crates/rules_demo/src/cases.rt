@@ -1,7 +1,9 @@
 // Cases, 26 words each: the rule, the conclusion and four premises, zeros for those that there are not.
 use rules::instances::is_instance;
 use rules::judgments::LineJudgment;
+use rules::judgments::subject_use;
 use rules::table::conclusion_form;
+use rules::table::is_rule;
 use terms::words::word_at;
 ghost use mathlib.Core.Path.{_≡_};
 ghost use mathlib.Core.List.{[], _∷_};
@@ -36,12 +38,12 @@ fn judgment_at(cases: &[u8], number: usize, j: usize) -> LineJudgment
 fn is_numbered(t: usize, n: usize, j: LineJudgment) -> bool
     ensures { λ r. ⌜ Decides r (Numbered t n j) ⌝ }
 {
-    let form = j.form;
-    (form <= 3)
+    let used = subject_use(j.form);
+    (j.form <= 3)
         & (j.context <= n)
-        & ((form < 1) | (j.s1 < t))
-        & ((form < 2) | (j.s2 < t))
-        & ((form < 1) | ((2 < form) | (j.s3 < t)))
+        & (!used.s1 | (j.s1 < t))
+        & (!used.s2 | (j.s2 < t))
+        & (!used.s3 | (j.s3 < t))
 }
 
 // Do these numbers make a case: a rule, its form, and numbers in range?
@@ -57,8 +59,7 @@ fn is_case(
 ) -> bool
     ensures { λ ok. ⌜ Decides ok (Case t n rule (p ∷ q ∷ r ∷ s ∷ []) c) ⌝ }
 {
-    (1 <= rule)
-        & (rule <= 43)
+    is_rule(rule)
         & (c.form == conclusion_form(rule))
         & is_numbered(t, n, c)
         & is_numbered(t, n, p)

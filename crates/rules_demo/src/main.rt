@@ -1,5 +1,6 @@
-// Runs the compiled `is_instance` on the cases of data/cases, over the tables of data/terms and data/contexts, and writes a line for
-// each case. The answers that it is held to, in stdout, were worked out from the rules: data/cases says how, and why at each case.
+// Runs the compiled `is_instance` on the cases of data/cases, over the tables of data/terms and data/contexts, and
+// writes a line for each case. The answers that it is held to, in stdout, were worked out from the rules: data/cases
+// says how, and why at each case.
 mod cases;
 mod numbers;
 mod tables;

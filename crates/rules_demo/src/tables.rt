@@ -20,10 +20,10 @@ pub fn are_sound(terms: &[u8], t: usize, contexts: &[u8], n: usize) -> bool
         return false;
     }
     let mut work = [0u32; 3072];
-    let TermsAnswer::Sound = check_terms(terms, t, &mut work) else {
+    let TermsAnswer::NoFault = check_terms(terms, t, &mut work) else {
         return false;
     };
-    let ContextsAnswer::Sound = check_contexts(contexts, t, n) else {
+    let ContextsAnswer::NoFault = check_contexts(contexts, t, n) else {
         return false;
     };
     true

@@ -5,8 +5,10 @@ use mathlib.Core.List.{List}
 use Prim.Native.Nat.{ℕ}
 use native.Mathlib.Omega.{arith}
 use Rattle.sheets.specs.Lines.{statedAt}
-use Rattle.sheets.specs.Good.{trailerFor, Good}
-use Rattle.sheets.specs.Accepted.{IsAccepted, listed, statedBy}
+use Rattle.sheets.specs.Good.{Good}
+use Rattle.sheets.specs.GoodLayout.{trailerFor}
+use Rattle.terms.specs.Lists.{listed}
+use Rattle.sheets.specs.Accepted.{IsAccepted, statedBy}
 use Rattle.sheets.proofs.AdmissionLaws.{accepted-is}
 
 pub good-accepted : {b : List ℕ} {T C L : ℕ} → Good b T C L → IsAccepted b

@@ -1,5 +1,5 @@
--- Demand 1: admission answers T, C, L exactly if the sheet is good with these counts and the work buffer has at least T words, and a
--- refusal exactly if its check is the first to fail, at its place; and the work buffer afterwards.
+-- Demand 1: admission answers T, C, L exactly if the sheet is good with these counts and the work buffer has at least T
+-- words, and a refusal exactly if its check is the first to fail, at its place; and the work buffer afterwards.
 -- Assumes nothing.
 use mathlib.Core.Path.{_≡_, refl, sym, _∙_, ap, subst}
 use mathlib.Core.Logic.{_↔_}
@@ -8,26 +8,30 @@ use Prim.Native.Nat.{ℕ, _*_, _≤_}
 use native.Mathlib.Omega.{arith}
 use lib.ListN.{length, drop, length-drop, List·getD-append}
 use Rattle.terms.specs.Table.{TermTable, RowFault, broken, repeated, large, TreeSizes}
-use Rattle.terms.specs.Sizes.{checkTerms, over}
+use Rattle.terms.specs.Sizes.{checkTerms}
+use Rattle.terms.specs.Buffers.{over}
 use Rattle.terms.specs.declared.sizes.TermsAnswer.{TermsAnswer}
-use Rattle.terms.specs.declared.sizes.TermsAnswer.the-variants.{Sound as soundTerms, Faulty as faultyTerms}
-use Rattle.terms.proofs.TableLaws.{check-sound, check-faulty, sound-sizes, faulty-sizes}
+use Rattle.terms.specs.declared.sizes.TermsAnswer.the-variants.{NoFault as noTermFault, Faulty as faultyTerms}
+use Rattle.terms.proofs.TableLaws.{check-faultless, check-faulty, faultless-sizes, faulty-sizes}
 use Rattle.rules.specs.Contexts.{ContextTable, checkContexts}
 use Rattle.rules.specs.declared.contexts.ContextsAnswer.{ContextsAnswer}
-use Rattle.rules.specs.declared.contexts.ContextsAnswer.the-variants.{Sound as soundContexts, Faulty as faultyContexts}
-use Rattle.rules.proofs.ContextTableCheckLaws.{check-sound as contexts-sound, check-faulty as contexts-faulty}
+use Rattle.rules.specs.declared.contexts.ContextsAnswer.the-variants.{NoFault as noContextFault, Faulty as faultyContexts}
+use Rattle.rules.proofs.ContextTableCheckLaws.{check-faultless as contexts-faultless, check-faulty as contexts-faulty}
 use Rattle.sheets.specs.declared.layout.Layout.{Layout}
 use Rattle.sheets.specs.declared.lines.LinesAnswer.{LinesAnswer}
-use Rattle.sheets.specs.declared.lines.LinesAnswer.the-variants.{Sound as soundLines, Faulty as faultyLines}
+use Rattle.sheets.specs.declared.lines.LinesAnswer.the-variants.{NoFault as noLineFault, Faulty as faultyLines}
 use Rattle.sheets.specs.declared.admission.Admission.{Admission}
 use Rattle.sheets.specs.declared.admission.Admission.the-variants.{Accepted, Refused}
 use Rattle.sheets.specs.Layout.{contextsIn, trailerOf}
 use Rattle.sheets.specs.Lines.{checkLines}
 use Rattle.sheets.specs.Admission.{afterLines, afterContexts, afterTerms, afterLayout, admitOf, workFrom, workAfter}
-use Rattle.sheets.specs.Good.{LaidOut, Tabled, Good, LayoutFault, wrongLength, notMarked, disagreeing, shortWork, LineFault, misfit, noInstance, FirstFault, inLayout, inTerms, inContexts, inLines, SizesLeft, WorkLeft, trailerFor}
+use Rattle.sheets.specs.Good.{WellFormedTables, Good, FirstFault, inLayout, inTerms, inContexts, inLines}
+use Rattle.sheets.specs.WorkBuffer.{SizesLeft, WorkLeft}
+use Rattle.sheets.specs.GoodLines.{LineFault, misfit, noInstance}
+use Rattle.sheets.specs.GoodLayout.{LaidOut, LayoutFault, wrongLength, notMarked, disagreeing, shortWork, trailerFor}
 use Rattle.sheets.proofs.BufferLaws.{over-length, over-beyond}
 use Rattle.sheets.proofs.LayoutLaws.{LayoutMeans, counted, wrong, layout-means, counted-is, wrong-is}
-use Rattle.sheets.proofs.LineCheckLaws.{lines-sound, lines-faulty}
+use Rattle.sheets.proofs.LineCheckLaws.{lines-faultless, lines-faulty}
 
 -- sizes written over the head of a buffer
 sizes-left : (bytes : List ℕ) (k : ℕ) (sizes before : List ℕ) → TreeSizes bytes k sizes → k ≤ length before → SizesLeft bytes k before (over sizes before)
@@ -54,20 +58,20 @@ module _ (bytes : List ℕ) (work : ℕ) where
     refused : {number place : ℕ} → FirstFault bytes work number place → Means (Refused number place)
 
   module _ (T C L : ℕ) (laid : LaidOut bytes T C L) (room : T ≤ work) where
-    on-lines : Tabled bytes T C L → (a : LinesAnswer) → checkLines bytes T C L ≡ a → Means (afterLines T C L a)
+    on-lines : WellFormedTables bytes T C L → (a : LinesAnswer) → checkLines bytes T C L ≡ a → Means (afterLines T C L a)
     unfolding afterLines
-    on-lines tables soundLines e = accepted (record { tables = tables; lines = lines-sound bytes T C L .0 e }) room
+    on-lines tables noLineFault e = accepted (record { tables = tables; lines = lines-faultless bytes T C L .0 e }) room
     on-lines tables (faultyLines number place) e = refused (inLines T C L tables room (lines-faulty bytes T C L number place .0 e))
 
     on-contexts : TermTable bytes T → (a : ContextsAnswer) → checkContexts (contextsIn bytes T) T C ≡ a → Means (afterContexts T C L bytes a)
     unfolding afterContexts
-    on-contexts terms soundContexts e =
-        on-lines (record { laid = laid; terms = terms; contexts = contexts-sound (contextsIn bytes T) T C (whole-contexts laid) .0 e }) (checkLines bytes T C L) refl
+    on-contexts terms noContextFault e =
+        on-lines (record { laid = laid; terms = terms; contexts = contexts-faultless (contextsIn bytes T) T C (whole-contexts laid) .0 e }) (checkLines bytes T C L) refl
     on-contexts terms (faultyContexts place) e = refused (inContexts T C L laid room terms (contexts-faulty (contextsIn bytes T) T C place (whole-contexts laid) .0 e))
 
     on-terms : (a : TermsAnswer) → checkTerms bytes T .answer ≡ a → Means (afterTerms T C L bytes a)
     unfolding afterTerms
-    on-terms soundTerms e = on-contexts (check-sound bytes T (whole-terms laid) .0 e) (checkContexts (contextsIn bytes T) T C) refl
+    on-terms noTermFault e = on-contexts (check-faultless bytes T (whole-terms laid) .0 e) (checkContexts (contextsIn bytes T) T C) refl
     on-terms (faultyTerms number place) e = refused (inTerms T C L laid room (check-faulty bytes T (whole-terms laid) number place .0 e))
 
   on-layout : {a : Layout} → LayoutMeans bytes work a → Means (afterLayout bytes a)
@@ -88,16 +92,16 @@ module _ (bytes : List ℕ) (work : ℕ) where
     module _ (terms : TermTable bytes T) where
       to-contexts : admitOf bytes work ≡ afterContexts T C L bytes (checkContexts (contextsIn bytes T) T C)
       unfolding afterTerms
-      to-contexts = to-terms ∙ ap (afterTerms T C L bytes) (check-sound bytes T (whole-terms laid) .1 terms)
+      to-contexts = to-terms ∙ ap (afterTerms T C L bytes) (check-faultless bytes T (whole-terms laid) .1 terms)
 
       to-lines : ContextTable (contextsIn bytes T) T C → admitOf bytes work ≡ afterLines T C L (checkLines bytes T C L)
       unfolding afterContexts
-      to-lines contexts = to-contexts ∙ ap (afterContexts T C L bytes) (contexts-sound (contextsIn bytes T) T C (whole-contexts laid) .1 contexts)
+      to-lines contexts = to-contexts ∙ ap (afterContexts T C L bytes) (contexts-faultless (contextsIn bytes T) T C (whole-contexts laid) .1 contexts)
 
   good-accepted : {T C L : ℕ} → Good bytes T C L → T ≤ work → admitOf bytes work ≡ Accepted T C L
   unfolding afterLines
   good-accepted {T} {C} {L} g room =
-      to-lines (g .tables .laid) room (g .tables .terms) (g .tables .contexts) ∙ ap (afterLines T C L) (lines-sound bytes T C L .1 (g .lines))
+      to-lines (g .tables .laid) room (g .tables .terms) (g .tables .contexts) ∙ ap (afterLines T C L) (lines-faultless bytes T C L .1 (g .lines))
 
   fault-refused : {number place : ℕ} → FirstFault bytes work number place → admitOf bytes work ≡ Refused number place
   unfolding admitOf afterLayout afterTerms afterContexts afterLines
@@ -154,7 +158,7 @@ module _ (bytes : List ℕ) (before : List ℕ) where
     left-sizes k h s = subst (SizesLeft bytes k before) (sym left-by-terms) (sizes-left bytes k (checkTerms bytes T .sizes) before s (omega arith))
 
     left-all : TermTable bytes T → SizesLeft bytes T before (workAfter bytes before)
-    left-all terms = left-sizes T (omega arith) (sound-sizes bytes T (whole-terms laid) terms)
+    left-all terms = left-sizes T (omega arith) (faultless-sizes bytes T (whole-terms laid) terms)
 
     pub left-counted : TermTable bytes T → SizesLeft bytes (trailerOf bytes .terms) before (workAfter bytes before)
     unfolding trailerFor

@@ -5,16 +5,16 @@ use mathlib.Core.List.{List}
 use Prim.Native.Nat.{ℕ, _+_, _-_, _*_, _≤_}
 use native.Mathlib.Omega.{arith}
 use lib.ListN.{length, take, drop, length-drop}
-use lib.Seq.{take-all}
 use Rattle.terms.specs.Table.{TermTable}
-use Rattle.terms.specs.Sizes.{checkTerms, over}
+use Rattle.terms.specs.Sizes.{checkTerms}
+use Rattle.terms.specs.Buffers.{over}
 use Rattle.terms.specs.declared.sizes.TermsAnswer.{TermsAnswer}
-use Rattle.terms.specs.declared.sizes.TermsAnswer.the-variants.{Sound as soundTerms}
-use Rattle.terms.proofs.TableLaws.{check-sound}
+use Rattle.terms.specs.declared.sizes.TermsAnswer.the-variants.{NoFault as noTermFault}
+use Rattle.terms.proofs.TableLaws.{check-faultless}
 use Rattle.rules.specs.Contexts.{checkContexts}
 use Rattle.rules.specs.declared.contexts.ContextsAnswer.{ContextsAnswer}
-use Rattle.rules.specs.declared.contexts.ContextsAnswer.the-variants.{Sound as soundContexts, Faulty as faultyContexts}
-use Rattle.rules.proofs.ContextTableCheckLaws.{check-sound as contexts-sound}
+use Rattle.rules.specs.declared.contexts.ContextsAnswer.the-variants.{NoFault as noContextFault, Faulty as faultyContexts}
+use Rattle.rules.proofs.ContextTableCheckLaws.{check-faultless as contexts-faultless}
 use Rattle.sheets.specs.declared.layout.Layout.{Layout}
 use Rattle.sheets.specs.declared.layout.Layout.the-variants.{Counted, Wrong}
 use Rattle.sheets.specs.declared.admission.Admission.{Admission}
@@ -25,39 +25,37 @@ use Rattle.sheets.specs.Layout.{contextsIn, linesIn, layoutOf}
 use Rattle.sheets.specs.Lines.{checkLines}
 use Rattle.sheets.specs.Admission.{afterLines, afterContexts, afterTerms, afterLayout, admitOf, workFrom, workAfter}
 use Rattle.sheets.specs.Finding.{searchLines, findAfter, findOf}
-use Rattle.sheets.specs.Good.{LaidOut, Tabled}
+use Rattle.sheets.specs.Good.{WellFormedTables}
+use Rattle.sheets.specs.GoodLayout.{LaidOut}
+use Rattle.sheets.proofs.BufferLaws.{part-to-end}
 use Rattle.sheets.proofs.LayoutLaws.{counted-is}
 use Rattle.sheets.proofs.AdmissionLaws.{whole-terms, whole-contexts, accepted-is}
-
--- a part of a slice that goes to its end
-part-all : (k : ℕ) (bytes : List ℕ) → take (length bytes - k) (drop k bytes) ≡ drop k bytes
-part-all k bytes = take-all (length bytes - k) (drop k bytes) (omega (arith, length-drop k bytes))
 
 module _ (bytes : List ℕ) (T C L : ℕ) where
   -- `admit_contexts`, where a is what the check of the part of the sheet answers
   module _ (a : ContextsAnswer) (e : a ≡ checkContexts (take (length bytes - 10 * T) (drop (10 * T) bytes)) T C) where
     answered : a ≡ checkContexts (contextsIn bytes T) T C
     unfolding contextsIn
-    answered = e ∙ ap (λ l. checkContexts l T C) (part-all (10 * T) bytes)
+    answered = e ∙ ap (λ l. checkContexts l T C) (part-to-end bytes (10 * T))
 
     pub contexts-8 : (place : ℕ) → a ≡ faultyContexts place → Refused 8 place ≡ afterContexts T C L bytes (checkContexts (contextsIn bytes T) T C)
     unfolding afterContexts
     contexts-8 place h = ap (afterContexts T C L bytes) (sym h ∙ answered)
 
-    pub contexts-right : a ≡ soundContexts → afterLines T C L (checkLines bytes T C L) ≡ afterContexts T C L bytes (checkContexts (contextsIn bytes T) T C)
+    pub contexts-right : a ≡ noContextFault → afterLines T C L (checkLines bytes T C L) ≡ afterContexts T C L bytes (checkContexts (contextsIn bytes T) T C)
     unfolding afterContexts
     contexts-right h = ap (afterContexts T C L bytes) (sym h ∙ answered)
 
-    pub tabled : LaidOut bytes T C L → TermTable bytes T → a ≡ soundContexts → Tabled bytes T C L
-    tabled laid terms h =
-        record { laid = laid; terms = terms; contexts = contexts-sound (contextsIn bytes T) T C (whole-contexts laid) .0 (sym answered ∙ h) }
+    pub well-formed : LaidOut bytes T C L → TermTable bytes T → a ≡ noContextFault → WellFormedTables bytes T C L
+    well-formed laid terms h =
+        record { laid = laid; terms = terms; contexts = contexts-faultless (contextsIn bytes T) T C (whole-contexts laid) .0 (sym answered ∙ h) }
 
   pub contexts-whole : LaidOut bytes T C L → 4 * C ≤ length (take (length bytes - 10 * T) (drop (10 * T) bytes))
-  contexts-whole laid = omega (arith, laid .long, length-drop (10 * T) bytes, ap length (part-all (10 * T) bytes))
+  contexts-whole laid = omega (arith, laid .long, length-drop (10 * T) bytes, ap length (part-to-end bytes (10 * T)))
 
   -- `admit_tables`
-  pub terms-right : (a : TermsAnswer) → LaidOut bytes T C L → a ≡ checkTerms bytes T .answer → a ≡ soundTerms → TermTable bytes T
-  terms-right a laid e h = check-sound bytes T (whole-terms laid) .0 (sym e ∙ h)
+  pub terms-right : (a : TermsAnswer) → LaidOut bytes T C L → a ≡ checkTerms bytes T .answer → a ≡ noTermFault → TermTable bytes T
+  terms-right a laid e h = check-faultless bytes T (whole-terms laid) .0 (sym e ∙ h)
 
   -- `admit`, where a is the answer for the layout
   pub layout-right : (work : ℕ) (a : Layout) → a ≡ layoutOf bytes work → a ≡ Counted T C L → LaidOut bytes T C L × (T ≤ work)
@@ -74,11 +72,11 @@ module _ (bytes : List ℕ) (T C L : ℕ) where
     accepted-laid = accepted-is bytes work T C L .0 (sym e ∙ h) .0 .tables .laid
 
     pub lines-whole : 20 * L ≤ length (take (length bytes - (10 * T + 4 * C)) (drop (10 * T + 4 * C) bytes))
-    lines-whole = omega (arith, accepted-laid .long, length-drop (10 * T + 4 * C) bytes, ap length (part-all (10 * T + 4 * C) bytes))
+    lines-whole = omega (arith, accepted-laid .long, length-drop (10 * T + 4 * C) bytes, ap length (part-to-end bytes (10 * T + 4 * C)))
 
     pub find-searched : (w : Wanted) (r : Found) → r ≡ searchLines (take (length bytes - (10 * T + 4 * C)) (drop (10 * T + 4 * C) bytes)) L w → r ≡ findOf bytes work w
     unfolding findOf findAfter linesIn
-    find-searched w r f = f ∙ ap (λ l. searchLines l L w) (part-all (10 * T + 4 * C) bytes) ∙ ap (findAfter bytes w) (sym h ∙ e)
+    find-searched w r f = f ∙ ap (λ l. searchLines l L w) (part-to-end bytes (10 * T + 4 * C)) ∙ ap (findAfter bytes w) (sym h ∙ e)
 
 pub layout-wrong : (bytes before : List ℕ) (number : ℕ) (a : Layout) → a ≡ layoutOf bytes (length before) → a ≡ Wrong number
     → (Refused number 0 ≡ admitOf bytes (length before)) × (before ≡ workAfter bytes before)

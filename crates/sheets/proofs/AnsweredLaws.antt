@@ -16,10 +16,11 @@ use Rattle.sheets.specs.declared.withdrawal.Withdrawal.{Withdrawal}
 use Rattle.sheets.specs.declared.withdrawal.Withdrawal.the-variants.{Written, Refused}
 use Rattle.sheets.specs.Layout.{trailerOf}
 use Rattle.sheets.specs.Admission.{admitOf, workAfter}
-use Rattle.sheets.specs.Good.{Good, SizesLeft, WorkLeft}
+use Rattle.sheets.specs.Good.{Good}
+use Rattle.sheets.specs.WorkBuffer.{SizesLeft, WorkLeft}
 use Rattle.sheets.specs.Finding.{findOf}
 use Rattle.sheets.specs.Withdrawal.{withdrawOf, missing, used, short, written}
-use Rattle.sheets.specs.Answered.{FoundMeans, faulty, found, absent, WithdrawnMeans, unfit, admitted}
+use Rattle.sheets.specs.Answered.{FoundMeans, faulty, found, absent, WithdrawalMeans, unfit, admitted}
 use Rattle.sheets.proofs.AdmissionLaws.{accepted-is, refused-is, left-counted, left-wholly, fault-left}
 use Rattle.sheets.proofs.FindingLaws.{find-refused, found-is, missing-is, missing-only}
 use Rattle.sheets.proofs.WithdrawalLaws.{withdraw-refused, withdrawn-is}
@@ -47,18 +48,18 @@ module _ (bytes : List ℕ) (work : ℕ) (w : Wanted) where
   find-is a = (λ e. subst (FoundMeans bytes work w) e (on-admission (admitOf bytes work) refl), back)
 
 module _ (bytes : List ℕ) (work n room : ℕ) where
-  on-withdrawal : (a : Admission) → admitOf bytes work ≡ a → WithdrawnMeans bytes work n room (withdrawOf bytes n work room)
+  on-withdrawal : (a : Admission) → admitOf bytes work ≡ a → WithdrawalMeans bytes work n room (withdrawOf bytes n work room)
   on-withdrawal (notAdmitted number place) e =
-      subst (WithdrawnMeans bytes work n room) (sym (withdraw-refused bytes n work room number place e)) (unfit (refused-is bytes work number place .0 e))
+      subst (WithdrawalMeans bytes work n room) (sym (withdraw-refused bytes n work room number place e)) (unfit (refused-is bytes work number place .0 e))
   on-withdrawal (Accepted T C L) e =
       let g = accepted-is bytes work T C L .0 e in admitted (g .0) (g .1) (withdrawn-is bytes n work room T C L e (withdrawOf bytes n work room) .0 refl)
 
-  withdrawal-back : {a : Withdrawal} → WithdrawnMeans bytes work n room a → withdrawOf bytes n work room ≡ a
+  withdrawal-back : {a : Withdrawal} → WithdrawalMeans bytes work n room a → withdrawOf bytes n work room ≡ a
   withdrawal-back (unfit {number} {place} f) = withdraw-refused bytes n work room number place (refused-is bytes work number place .1 f)
   withdrawal-back (admitted {T} {C} {L} {a} g fits m) = withdrawn-is bytes n work room T C L (accepted-is bytes work T C L .1 (g, fits)) a .1 m
 
-  pub withdrawal-is : (a : Withdrawal) → (withdrawOf bytes n work room ≡ a) ↔ WithdrawnMeans bytes work n room a
-  withdrawal-is a = (λ e. subst (WithdrawnMeans bytes work n room) e (on-withdrawal (admitOf bytes work) refl), withdrawal-back)
+  pub withdrawal-is : (a : Withdrawal) → (withdrawOf bytes n work room ≡ a) ↔ WithdrawalMeans bytes work n room a
+  withdrawal-is a = (λ e. subst (WithdrawalMeans bytes work n room) e (on-withdrawal (admitOf bytes work) refl), withdrawal-back)
 
 -- The work buffer: after a refusal it holds what the number says, all sizes from 8 on; after any other answer, all
 -- sizes. Once the sheet is accepted it makes no difference what is answered.
@@ -100,7 +101,7 @@ module _ (bytes before : List ℕ) where
         → RefusalLeaves number place
     withdrawal-left number place e = at (withdrawal-is bytes (length before) n room (Refused number place) .0 e)
       where
-        at : {k p : ℕ} → WithdrawnMeans bytes (length before) n room (Refused k p) → RefusalLeaves k p
+        at : {k p : ℕ} → WithdrawalMeans bytes (length before) n room (Refused k p) → RefusalLeaves k p
         at (unfit f) = fault-left bytes before f
         at (admitted g fits (missing h)) = later g fits 11 n (omega arith)
         at (admitted g fits (used {p} h u)) = later g fits 12 p (omega arith)
@@ -114,5 +115,5 @@ module _ (bytes before : List ℕ) where
     pub written-left : (new : ℕ) → withdrawOf bytes n (length before) room ≡ Written new → AllSizes
     written-left new e = at (withdrawal-is bytes (length before) n room (Written new) .0 e)
       where
-        at : {l : ℕ} → WithdrawnMeans bytes (length before) n room (Written l) → AllSizes
+        at : {l : ℕ} → WithdrawalMeans bytes (length before) n room (Written l) → AllSizes
         at (admitted g fits (written h u k)) = all-sizes g fits

@@ -2,31 +2,30 @@
 -- Assumes nothing.
 use mathlib.Core.Path.{_≡_, refl, sym, _∙_, ap, subst}
 use mathlib.Core.Logic.{_↔_, _⊎_, inl, inr}
-use mathlib.Core.Bool.{Bool, true, false, _&&_}
+use mathlib.Core.Bool.{Bool, true, false}
 use mathlib.Core.List.{List}
 use Prim.Native.Nat.{ℕ, _+_, _-_, _≤_, _<_}
 use native.Mathlib.Omega.{arith}
-use lib.Dec.{leb, eqb}
+use lib.Dec.{leb}
 use lib.ListN.{length, take, drop, length-drop}
 use lib.Seq.{take-all}
 use borrow.Author.Tests.{leb-true, leb-false, le-leb, lt-leb}
 use Rattle.terms.specs.Decides.{Decides}
 use Rattle.terms.specs.Words.{wordAt}
-use Rattle.terms.proofs.Tests.{refuted, decides-both}
+use Rattle.terms.proofs.Tests.{either, refutes, says-le, says-eq, refuted, _&_}
 use Rattle.sheets.specs.declared.layout.Trailer.{Trailer}
 use Rattle.sheets.specs.declared.layout.Layout.{Layout}
 use Rattle.sheets.specs.declared.layout.Layout.the-variants.{Counted, Wrong}
 use Rattle.sheets.specs.Layout.{trailerWord, trailerOf, toLines, toContexts, toTerms, lengthFits, markFits, limitsFit, distancesFit, countsFit, trailerAnswer, layoutOf}
-use Rattle.sheets.specs.Good.{trailerFor, LaidOut, RightLength, Marked, LayoutFault, wrongLength, notMarked, disagreeing, shortWork}
-use Rattle.sheets.proofs.TestLaws.{either, refutes, says-le, says-eq}
+use Rattle.sheets.specs.GoodLayout.{trailerFor, LaidOut, RightLength, Marked, LayoutFault, wrongLength, notMarked, disagreeing, shortWork}
 
 pub length-says : (n : ℕ) → Decides (lengthFits n) ((16 ≤ n) × (n ≤ 52240))
 unfolding lengthFits
-length-says n = decides-both (leb 16 n) (leb n 52240) (says-le 16 n) (says-le n 52240)
+length-says n = says-le 16 n & says-le n 52240
 
 pub mark-says : (t : Trailer) → Decides (markFits t) (Marked t)
 unfolding markFits
-mark-says t = decides-both (eqb (t .mark) 0x4C44) (eqb (t .edition) 1) (says-eq (t .mark) 0x4C44) (says-eq (t .edition) 1)
+mark-says t = says-eq (t .mark) 0x4C44 & says-eq (t .edition) 1
 
 -- number 3, limits
 abbrev Limited : Trailer → Type 0
@@ -35,34 +34,22 @@ Limited t = ((t .terms ≤ 3072) × (t .contexts ≤ 256)) × (t .lines ≤ 1024
 pub limits-say : (t : Trailer) → Decides (limitsFit t) (Limited t)
 unfolding limitsFit
 limits-say t =
-    decides-both (leb (t .terms) 3072 && leb (t .contexts) 256) (leb (t .lines) 1024)
-    (decides-both (leb (t .terms) 3072) (leb (t .contexts) 256) (says-le (t .terms) 3072) (says-le (t .contexts) 256))
-    (says-le (t .lines) 1024)
+    says-le (t .terms) 3072 & says-le (t .contexts) 256 & says-le (t .lines) 1024
 
 -- number 3, distances and length
 abbrev Agreeing : Trailer → ℕ → Type 0
 Agreeing t n =
-    (((t .first ≡ toTerms (t .terms) (t .contexts) (t .lines)) × (t .second ≡ toContexts (t .contexts) (t .lines)))
-    × (t .third ≡ toLines (t .lines))) × (n ≡ toTerms (t .terms) (t .contexts) (t .lines) + 16)
+    (((t .«to_terms» ≡ toTerms (t .terms) (t .contexts) (t .lines)) × (t .«to_contexts» ≡ toContexts (t .contexts) (t .lines)))
+    × (t .«to_lines» ≡ toLines (t .lines))) × (n ≡ toTerms (t .terms) (t .contexts) (t .lines) + 16)
 
 pub distances-say : (t : Trailer) (n : ℕ) → Decides (distancesFit t n) (Agreeing t n)
 unfolding distancesFit
 distances-say t n =
-    decides-both
-    (eqb (t .first) (toTerms (t .terms) (t .contexts) (t .lines)) && eqb (t .second) (toContexts (t .contexts) (t .lines)) && eqb (t .third) (toLines (t .lines)))
-    (eqb n (toTerms (t .terms) (t .contexts) (t .lines) + 16))
-    (decides-both
-    (eqb (t .first) (toTerms (t .terms) (t .contexts) (t .lines)) && eqb (t .second) (toContexts (t .contexts) (t .lines)))
-    (eqb (t .third) (toLines (t .lines)))
-    (decides-both
-    (eqb (t .first) (toTerms (t .terms) (t .contexts) (t .lines)))
-    (eqb (t .second) (toContexts (t .contexts) (t .lines)))
-    (says-eq (t .first) _) (says-eq (t .second) _)) (says-eq (t .third) _))
-    (says-eq n _)
+    says-eq (t .«to_terms») _ & says-eq (t .«to_contexts») _ & says-eq (t .«to_lines») _ & says-eq n _
 
 pub counts-say : (t : Trailer) (n : ℕ) → Decides (countsFit t n) (Limited t × Agreeing t n)
 unfolding countsFit
-counts-say t n = decides-both (limitsFit t) (distancesFit t n) (limits-say t) (distances-say t n)
+counts-say t n = limits-say t & distances-say t n
 
 -- `read_trailer`: the words are read from the end of the sheet, as a part of it
 module _ (bytes : List ℕ) where
@@ -75,7 +62,7 @@ module _ (bytes : List ℕ) where
 
   pub trailer-read : (a b c d e f g h : ℕ) → a ≡ wordAt ending 0 → b ≡ wordAt ending 1 → c ≡ wordAt ending 2 → d ≡ wordAt ending 3
       → e ≡ wordAt ending 4 → f ≡ wordAt ending 5 → g ≡ wordAt ending 6 → h ≡ wordAt ending 7
-      → _≡_ {A = Trailer} (record { terms = a; contexts = b; lines = c; edition = d; first = e; second = f; third = g; mark = h }) (trailerOf bytes)
+      → _≡_ {A = Trailer} (record { terms = a; contexts = b; lines = c; edition = d; «to_terms» = e; «to_contexts» = f; «to_lines» = g; mark = h }) (trailerOf bytes)
   unfolding trailerOf
   trailer-read a b c d e f g h p q r s t u v w =
       λ i. record {
@@ -83,9 +70,9 @@ module _ (bytes : List ℕ) where
         contexts = at-end 1 b q i;
         lines = at-end 2 c r i;
         edition = at-end 3 d s i;
-        first = at-end 4 e t i;
-        second = at-end 5 f u i;
-        third = at-end 6 g v i;
+        «to_terms» = at-end 4 e t i;
+        «to_contexts» = at-end 5 f u i;
+        «to_lines» = at-end 6 g v i;
         mark = at-end 7 h w i;
       }
 
@@ -145,9 +132,9 @@ module _ (bytes : List ℕ) where
           contexts = trailerOf bytes .contexts;
           lines = trailerOf bytes .lines;
           edition = m .1 i;
-          first = a .0 .0 .0 i;
-          second = a .0 .0 .1 i;
-          third = a .0 .1 i;
+          «to_terms» = a .0 .0 .0 i;
+          «to_contexts» = a .0 .0 .1 i;
+          «to_lines» = a .0 .1 i;
           mark = m .0 i;
         };
         fewTerms = l .0 .0;
@@ -184,15 +171,15 @@ module _ (bytes : List ℕ) where
         at-counts (inl l) = at-work l (either _)
         at-counts (inr l) =
             means (trailer-3 _ _ _ m l)
-            (wrong (disagreeing (length-says _ .0 h) (mark-says _ .0 m) (λ T C L laid. let p = laid-passes T C L laid in refuted _ (counts-say _ _) l (p .2, p .3))))
+            (wrong (disagreeing (length-says _ .0 h) (mark-says _ .0 m) (λ T C L laid. let p = laid-passes T C L laid in refuted (counts-say _ _) l (p .2, p .3))))
 
       at-mark : Either (markFits (trailerOf bytes)) → LayoutMeans (layoutOf bytes work)
       at-mark (inl m) = at-counts m (either _)
-      at-mark (inr m) = means (trailer-2 _ _ _ m) (wrong (notMarked (length-says _ .0 h) (refuted _ (mark-says _) m)))
+      at-mark (inr m) = means (trailer-2 _ _ _ m) (wrong (notMarked (length-says _ .0 h) (refuted (mark-says _) m)))
 
     at-length : Either (lengthFits (length bytes)) → LayoutMeans (layoutOf bytes work)
     at-length (inl h) = at-mark h (either _)
-    at-length (inr h) = subst LayoutMeans (sym (layout-1 bytes work h)) (wrong (wrongLength (refuted _ (length-says _) h)))
+    at-length (inr h) = subst LayoutMeans (sym (layout-1 bytes work h)) (wrong (wrongLength (refuted (length-says _) h)))
 
     pub layout-means : LayoutMeans (layoutOf bytes work)
     layout-means = at-length (either _)

@@ -1,5 +1,4 @@
 pub mod CasesHold
-pub mod TestLaws
 pub mod BufferLaws
 pub mod LayoutLaws
 pub mod LineLaws
@@ -10,6 +9,7 @@ pub mod AnswerLaws
 pub mod LineAnswers
 pub mod WrittenLaws
 pub mod AcceptedLaws
+pub mod SameTables
 pub mod SheetWithout
 pub mod WithdrawalLaws
 pub mod WithdrawalAnswers

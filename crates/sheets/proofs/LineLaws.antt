@@ -1,21 +1,24 @@
 -- Number 9 answers for its declarative reading.
 -- Assumes nothing.
-use mathlib.Core.Path.{_≡_, sym, subst}
-use mathlib.Core.Logic.{_↔_, _⊎_, inl, inr}
+use mathlib.Core.Path.{_≡_, refl, sym, subst}
+use mathlib.Core.Logic.{_↔_}
 use mathlib.Core.Bool.{Bool, true, false, _&&_}
 use Prim.Native.Nat.{ℕ, zero, suc, _≤_, _<_}
 use native.Mathlib.Omega.{arith}
-use lib.Dec.{leb, ltb, eqb}
+use lib.Dec.{ltb}
 use lib.ListN.{getD}
-use borrow.Author.Tests.{lt-leb}
+use borrow.Author.Tests.{ltb-true, ltb-false, lt-ltb, le-ltb}
 use Rattle.terms.specs.Decides.{Decides}
-use Rattle.terms.proofs.Tests.{refuted, decides-via, decides-both}
-use Rattle.rules.specs.RuleTable.{formOf, premiseCount}
+use Rattle.terms.proofs.Tests.{never, says-le, says-lt, says-eq, decides-via, _&_}
+use Rattle.rules.specs.Subjects.{lastForm, usesSubject, subjectsOf, useOf}
+use Rattle.rules.specs.RuleTable.{IsRule, formOf, premiseCount}
 use Rattle.rules.specs.declared.judgments.LineJudgment.{LineJudgment}
+use Rattle.rules.specs.declared.judgments.SubjectUse.{SubjectUse}
+use Rattle.rules.proofs.SubjectLaws.{unused-past, by-place}
+use Rattle.rules.proofs.RuleTableEntries.{says-rule, form-small}
 use Rattle.sheets.specs.declared.lines.Line.{Line}
 use Rattle.sheets.specs.Lines.{judgmentOf, premisesOf, below, subjectsFit, premisesFit, ruleFits, numbersFit, lineFits}
-use Rattle.sheets.specs.Good.{LineOk}
-use Rattle.sheets.proofs.TestLaws.{either, says-le, says-lt, says-eq}
+use Rattle.sheets.specs.GoodLines.{LineOk}
 
 -- `bound`
 pub bound-used : (b : Bool) (n : ℕ) → b ≡ true → n ≡ below b n
@@ -26,41 +29,23 @@ pub bound-unused : (b : Bool) (n : ℕ) → b ≡ false → 1 ≡ below b n
 unfolding below
 bound-unused b n e = rw e
 
+-- `subjects_fit`, where u says which subjects are used
+pub subjects-bound : (j : LineJudgment) (T : ℕ) {u : SubjectUse} {x y z : ℕ}
+    → u ≡ useOf (j .form)
+    → x ≡ below (u .s1) T → y ≡ below (u .s2) T → z ≡ below (u .s3) T
+    → ltb (j .s1) x && ltb (j .s2) y && ltb (j .s3) z ≡ subjectsFit j T
+unfolding subjectsFit
+subjects-bound j T e ex ey ez = cc
+
 -- a number is below the bound if it is used, else 0
-abbrev Kept : Type 0 → ℕ → ℕ → Type 0
-Kept P x bound = (P → x < bound) × ((P → ⊥) → x ≡ 0)
+abbrev Kept : Bool → ℕ → ℕ → Type 0
+Kept used x bound = (used ≡ true → x < bound) × (used ≡ false → x ≡ 0)
 
--- where a test tells whether it is used
-module _ {P : Type 0} (b : Bool) (d : Decides b P) (x bound : ℕ) where
-  kept : (x < below b bound) ↔ Kept P x bound
-  unfolding below
-  kept = (from (either b), λ k. to k (either b))
-    where
-      from : (b ≡ true) ⊎ (b ≡ false) → x < below b bound → Kept P x bound
-      from (inl e) h = (λ p. subst (λ c. x < below c bound) e h, λ q. absurd (q (d .0 e)))
-      from (inr e) h =
-          let k : x < 1 = subst (λ c. x < below c bound) e h in
-          (λ p. absurd (refuted b d e p), λ q. omega arith)
-
-      to : Kept P x bound → (b ≡ true) ⊎ (b ≡ false) → x < below b bound
-      to k (inl e) = subst (λ c. x < below c bound) (sym e) (k .0 (d .0 e))
-      to k (inr e) = let z : x < 1 = omega (arith, k .1 (refuted b d e)) in subst (λ c. x < below c bound) (sym e) z
-
-  says-kept : Decides (ltb x (below b bound)) (Kept P x bound)
-  says-kept = decides-via (ltb x (below b bound)) kept (says-lt x (below b bound))
-
--- the form of a rule is one of four
-form-small : (rule : ℕ) → 1 ≤ rule → rule ≤ 43 → formOf rule ≤ 3
-unfolding formOf
-form-small rule low high = at (either (leb rule 2)) (either (leb rule 16)) (either (leb rule 34)) (either (leb rule 43))
-  where
-    at : (leb rule 2 ≡ true) ⊎ (leb rule 2 ≡ false) → (leb rule 16 ≡ true) ⊎ (leb rule 16 ≡ false) → (leb rule 34 ≡ true) ⊎ (leb rule 34 ≡ false)
-        → (leb rule 43 ≡ true) ⊎ (leb rule 43 ≡ false) → formOf rule ≤ 3
-    at (inl a) b c d = rw (lt-leb rule 0 low, a, formOf) (omega arith)
-    at (inr a) (inl b) c d = rw (lt-leb rule 0 low, a, b, formOf) (omega arith)
-    at (inr a) (inr b) (inl c) d = rw (lt-leb rule 0 low, a, b, c, formOf) (omega arith)
-    at (inr a) (inr b) (inr c) (inl d) = rw (lt-leb rule 0 low, a, b, c, d, formOf) (omega arith)
-    at (inr a) (inr b) (inr c) (inr d) = absurd (refuted _ (says-le rule 43) d high)
+says-kept : (used : Bool) (x bound : ℕ) → Decides (ltb x (below used bound)) (Kept used x bound)
+unfolding below
+says-kept true x bound = decides-via (λ h. (λ u. h, λ u. never refl u), λ k. k .0 refl) (says-lt x bound)
+says-kept false x bound =
+    decides-via (λ h. (λ u. never u refl, λ u. omega arith), λ k. omega (arith, k .1 refl)) (says-lt x 1)
 
 four : (P : ℕ → Type 0) → P 0 → P 1 → P 2 → P 3 → (j : ℕ) → j < 4 → P j
 four P a b c d zero h = a
@@ -70,50 +55,48 @@ four P a b c d (suc (suc (suc zero))) h = d
 four P a b c d (suc (suc (suc (suc j)))) h = absurd (omega arith)
 
 -- used and unused subjects
+abbrev SubjectOk : LineJudgment → ℕ → ℕ → Type 0
+SubjectOk j T k = Kept (usesSubject (j .form) k) (getD (subjectsOf j) k 0) T
+
 abbrev SubjectsOk : LineJudgment → ℕ → Type 0
-SubjectsOk j T = (Kept (1 ≤ j .form) (j .s1) T × Kept (2 ≤ j .form) (j .s2) T) × Kept ((1 ≤ j .form) × (j .form ≤ 2)) (j .s3) T
+SubjectsOk j T = (k : ℕ) → SubjectOk j T k
 
 subjects-say : (j : LineJudgment) (T : ℕ) → Decides (subjectsFit j T) (SubjectsOk j T)
-unfolding subjectsFit
+unfolding subjectsFit subjectsOf
 subjects-say j T =
-    decides-both
-    (ltb (j .s1) (below (leb 1 (j .form)) T) && ltb (j .s2) (below (leb 2 (j .form)) T))
-    (ltb (j .s3) (below (leb 1 (j .form) && leb (j .form) 2) T))
-    (decides-both
-    (ltb (j .s1) (below (leb 1 (j .form)) T)) (ltb (j .s2) (below (leb 2 (j .form)) T))
-    (says-kept (leb 1 (j .form)) (says-le 1 (j .form)) (j .s1) T)
-    (says-kept (leb 2 (j .form)) (says-le 2 (j .form)) (j .s2) T))
-    (says-kept (leb 1 (j .form) && leb (j .form) 2)
-    (decides-both (leb 1 (j .form)) (leb (j .form) 2) (says-le 1 (j .form)) (says-le (j .form) 2)) (j .s3) T)
+    decides-via (
+      λ p. by-place (SubjectOk j T) (p .0 .0) (p .0 .1) (p .1) (λ k. (λ u. never u (unused-past (j .form) k), λ u. refl)),
+      λ f. ((f 0, f 1), f 2),
+    ) (says 0 & says 1 & says 2)
+  where
+    says : (k : ℕ) → Decides (ltb (getD (subjectsOf j) k 0) (below (usesSubject (j .form) k) T)) (SubjectOk j T k)
+    says k = says-kept (usesSubject (j .form) k) (getD (subjectsOf j) k 0) T
 
 -- used and unused premises
+abbrev PremiseOk : Line → ℕ → ℕ → ℕ → Type 0
+PremiseOk l count n j = Kept (ltb j count) (getD (premisesOf l) j 0) n
+
 abbrev PremisesOk : Line → ℕ → ℕ → Type 0
-PremisesOk l count n = (j : ℕ) → j < 4 → Kept (j < count) (getD (premisesOf l) j 0) n
+PremisesOk l count n = (j : ℕ) → j < 4 → PremiseOk l count n j
 
 premises-say : (l : Line) (count n : ℕ) → Decides (premisesFit l count n) (PremisesOk l count n)
 unfolding premisesFit premisesOf
 premises-say l count n =
-    decides-via (at 0 && at 1 && at 2 && at 3) (
-      (λ p. four (λ j. Kept (j < count) (getD (premisesOf l) j 0) n) (p .0 .0 .0) (p .0 .0 .1) (p .0 .1) (p .1)),
+    decides-via (
+      λ p. four (PremiseOk l count n) (p .0 .0 .0) (p .0 .0 .1) (p .0 .1) (p .1),
       λ f. (((f 0 (omega arith), f 1 (omega arith)), f 2 (omega arith)), f 3 (omega arith)),
-    )
-    (decides-both (at 0 && at 1 && at 2) (at 3) (decides-both (at 0 && at 1) (at 2) (decides-both (at 0) (at 1) (says 0) (says 1)) (says 2)) (says 3))
+    ) (says 0 & says 1 & says 2 & says 3)
   where
-    at : ℕ → Bool
-    at j = ltb (getD (premisesOf l) j 0) (below (ltb j count) n)
-
-    says : (j : ℕ) → Decides (at j) (Kept (j < count) (getD (premisesOf l) j 0) n)
-    says j = says-kept (ltb j count) (says-lt j count) (getD (premisesOf l) j 0) n
+    says : (j : ℕ) → Decides (ltb (getD (premisesOf l) j 0) (below (ltb j count) n)) (PremiseOk l count n j)
+    says j = says-kept (ltb j count) (getD (premisesOf l) j 0) n
 
 module _ (l : Line) (n T C : ℕ) where
   abbrev RuleOk : Type 0
-  RuleOk = ((1 ≤ l .rule) × (l .rule ≤ 43)) × (judgmentOf l .form ≡ formOf (l .rule))
+  RuleOk = IsRule (l .rule) × (judgmentOf l .form ≡ formOf (l .rule))
 
   pub rule-says : Decides (ruleFits l) RuleOk
   unfolding ruleFits
-  rule-says =
-      decides-both (leb 1 (l .rule) && leb (l .rule) 43) (eqb (judgmentOf l .form) (formOf (l .rule)))
-      (decides-both (leb 1 (l .rule)) (leb (l .rule) 43) (says-le 1 (l .rule)) (says-le (l .rule) 43)) (says-eq _ _)
+  rule-says = says-rule (l .rule) & says-eq _ _
 
   abbrev AllOk : Type 0
   AllOk = RuleOk × (((l .context ≤ C) × SubjectsOk (judgmentOf l) T) × PremisesOk l (premiseCount (l .rule)) n)
@@ -124,33 +107,24 @@ module _ (l : Line) (n T C : ℕ) where
     λ a.
         let r = a .0 in
         let s = a .1 .0 .1 in
+        let p = a .1 .1 in
         record {
           rule = r .0;
           form = r .1;
           numbers = record {
-            form = subst (λ m. m ≤ 3) (sym (r .1)) (form-small (l .rule) (r .0 .0) (r .0 .1));
+            form = subst (λ m. m ≤ lastForm) (sym (r .1)) (form-small (l .rule) _ (r .0) refl);
             within = a .1 .0 .0;
-            first = s .0 .0 .0;
-            second = s .0 .1 .0;
-            third = λ x y. s .1 .0 (x, y);
+            subjects = λ k. s k .0;
           };
-          unusedFirst = λ h. s .0 .0 .1 (λ k. omega arith);
-          unusedSecond = λ h. s .0 .1 .1 (λ k. omega arith);
-          unusedThird = λ h. s .1 .1 (λ k. h (k .0) (k .1));
-          earlier = λ j h. a .1 .1 j h .0;
-          unusedPremise = λ j h k. a .1 .1 j h .1 (λ m. omega arith);
+          unusedSubject = λ k. s k .1;
+          earlier = λ j h k. p j h .0 (lt-ltb j _ k);
+          unusedPremise = λ j h k. p j h .1 (le-ltb j _ k);
         },
     λ o. (
       (o .rule, o .form),
       (
-        (
-          o .numbers .within,
-          (
-            ((o .numbers .first, λ h. o .unusedFirst (omega (arith, h))), (o .numbers .second, λ h. o .unusedSecond (omega (arith, h)))),
-            (λ h. o .numbers .third (h .0) (h .1), λ h. o .unusedThird (λ x y. h (x, y))),
-          ),
-        ),
-        λ j h. (o .earlier j h, λ k. o .unusedPremise j h (omega (arith, k))),
+        (o .numbers .within, λ k. (o .numbers .subjects k, o .unusedSubject k)),
+        λ j h. (λ k. o .earlier j h (ltb-true j _ k), λ k. o .unusedPremise j h (ltb-false j _ k)),
       ),
     ),
   )
@@ -159,8 +133,4 @@ module _ (l : Line) (n T C : ℕ) where
   pub line-says : Decides (lineFits l n T C) (LineOk l n T C)
   unfolding lineFits numbersFit
   line-says =
-      decides-via (lineFits l n T C) all-ok
-      (decides-both (ruleFits l) (numbersFit l n T C) rule-says
-      (decides-both (leb (l .context) C && subjectsFit (judgmentOf l) T) (premisesFit l (premiseCount (l .rule)) n)
-      (decides-both (leb (l .context) C) (subjectsFit (judgmentOf l) T) (says-le (l .context) C) (subjects-say (judgmentOf l) T))
-      (premises-say l (premiseCount (l .rule)) n)))
+      decides-via all-ok (rule-says & (says-le (l .context) C & subjects-say (judgmentOf l) T & premises-say l (premiseCount (l .rule)) n))

@@ -74,7 +74,7 @@ module _ (bytes : List ℕ) (t work : ℕ) where
     told : t < T → (b : Bool) → isNormal (term bytes t) ≡ b → NormalityMeans bytes t work (yesOrNo b)
     unfolding yesOrNo
     told h true e = normal (good .0) (good .1) h (normal-decided (term bytes t) .0 e)
-    told h false e = notNormal (good .0) (good .1) h (refuted _ (normal-decided (term bytes t)) e)
+    told h false e = notNormal (good .0) (good .1) h (refuted (normal-decided (term bytes t)) e)
 
     means-accepted : Dec (T ≤ t) → NormalityMeans bytes t work (normalityOf bytes t work)
     means-accepted (yes h) =

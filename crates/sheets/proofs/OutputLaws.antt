@@ -8,18 +8,19 @@ use native.Mathlib.Omega.{arith}
 use lib.ListN.{length, take, drop, take-append-drop, length-drop}
 use lib.Seq.{getD-drop, ext-getD}
 use Rattle.terms.specs.Words.{wordAt}
-use Rattle.terms.specs.Sizes.{over}
+use Rattle.terms.specs.Buffers.{over}
 use Rattle.sheets.specs.declared.layout.Trailer.{Trailer}
 use Rattle.sheets.specs.declared.withdrawal.Withdrawal.{Withdrawal}
 use Rattle.sheets.specs.declared.withdrawal.Withdrawal.the-variants.{Written, Refused}
 use Rattle.sheets.specs.Layout.{linesIn, trailerWord, trailerOf}
 use Rattle.sheets.specs.Lines.{lineWord}
-use Rattle.sheets.specs.Good.{trailerFor, Good}
+use Rattle.sheets.specs.Good.{Good}
+use Rattle.sheets.specs.GoodLayout.{trailerFor}
 use Rattle.sheets.specs.Accepted.{Bytes}
 use Rattle.sheets.specs.Withdrawal.{newLength, newWord, linesStart, linesEnd, sheetWithout, withoutLine}
 use Rattle.sheets.specs.Withdrawal.{withdrawOf, outFrom, outAfter, written}
 use Rattle.sheets.specs.Output.{MovedLine, LineAway, WrittenLeft, OutputLeft}
-use Rattle.sheets.specs.Answered.{WithdrawnMeans, admitted}
+use Rattle.sheets.specs.Answered.{WithdrawalMeans, admitted}
 use Rattle.sheets.proofs.WrittenLaws.{word-drop, written-only}
 use Rattle.sheets.proofs.BufferLaws.{over-length, over-beyond}
 use Rattle.sheets.proofs.SheetWithout.{word-new, line-away}
@@ -32,9 +33,9 @@ trailer-word s t e zero h = ap (λ r. r .terms) e
 trailer-word s t e (suc zero) h = ap (λ r. r .contexts) e
 trailer-word s t e (suc (suc zero)) h = ap (λ r. r .lines) e
 trailer-word s t e (suc (suc (suc zero))) h = ap (λ r. r .edition) e
-trailer-word s t e (suc (suc (suc (suc zero)))) h = ap (λ r. r .first) e
-trailer-word s t e (suc (suc (suc (suc (suc zero))))) h = ap (λ r. r .second) e
-trailer-word s t e (suc (suc (suc (suc (suc (suc zero)))))) h = ap (λ r. r .third) e
+trailer-word s t e (suc (suc (suc (suc zero)))) h = ap (λ r. r .«to_terms») e
+trailer-word s t e (suc (suc (suc (suc (suc zero))))) h = ap (λ r. r .«to_contexts») e
+trailer-word s t e (suc (suc (suc (suc (suc (suc zero)))))) h = ap (λ r. r .«to_lines») e
 trailer-word s t e (suc (suc (suc (suc (suc (suc (suc zero))))))) h = ap (λ r. r .mark) e
 trailer-word s t e (suc (suc (suc (suc (suc (suc (suc (suc j)))))))) h = absurd (omega arith)
 
@@ -143,7 +144,7 @@ module _ (bytes : List ℕ) (T C L n : ℕ) (g : Good bytes T C L) (there : n < 
 
 module _ (bytes : List ℕ) (n work : ℕ) (before : List ℕ) where
   abbrev Means : Withdrawal → Type 0
-  Means = WithdrawnMeans bytes work n (length before)
+  Means = WithdrawalMeans bytes work n (length before)
 
   left : (a : Withdrawal) → Means a → OutputLeft bytes n before (outFrom bytes n before a) a
   unfolding OutputLeft outFrom

@@ -1,4 +1,5 @@
--- The sheet without a line that no later line uses: it is good, and it states the judgments of the old one, that line's missing.
+-- The sheet without a line that no later line uses: it is good, and it states the judgments of the old one, that line's
+-- missing.
 -- Assumes nothing.
 use mathlib.Core.Path.{_≡_, refl, sym, _∙_, ap, ap₂, subst, subst₂}
 use mathlib.Core.Bool.{true, false}
@@ -7,30 +8,25 @@ use Prim.Native.Nat.{ℕ, zero, suc, _+_, _-_, _*_, _%_, _≤_, _<_}
 use native.Mathlib.Decide.{decLt}
 use native.Mathlib.Omega.{arith}
 use lib.Dec.{leb, ltb}
-use lib.ListN.{length, getD, take, drop, length-drop}
+use lib.ListN.{length, getD, take, drop}
 use borrow.Author.Tests.{lt-ltb}
-use Rattle.terms.specs.Term.{Term, size}
-use Rattle.terms.specs.Tag.{tagOf}
 use Rattle.terms.specs.Words.{wordAt}
-use Rattle.terms.specs.Rows.{word, tag, term}
-use Rattle.terms.specs.Table.{limit, GoodRow, TermTable}
-use Rattle.terms.proofs.TermLaws.{downward, same-term}
-use Rattle.rules.specs.Judgment.{Context}
+use Rattle.terms.proofs.Tests.{refutes, says-le, says-lt}
 use Rattle.rules.specs.Instance.{Instance}
 use Rattle.rules.specs.RuleTable.{premiseCount}
-use Rattle.rules.specs.Contexts.{parentOf, typeOf, context, ContextTable}
-use Rattle.rules.specs.Stated.{stated, Numbered, judgmentOf as plainJudgment}
-use Rattle.rules.specs.declared.judgments.LineJudgment.{LineJudgment}
-use Rattle.rules.proofs.ContextTableLaws.{same-context}
+use Rattle.rules.specs.Stated.{stated}
 use Rattle.sheets.specs.declared.lines.Line.{Line}
 use Rattle.sheets.specs.Layout.{contextsIn, linesIn, trailerWord, trailerOf, toLines, toContexts, toTerms}
 use Rattle.sheets.specs.Lines.{lineWord, lineOf, judgmentOf, premisesOf, citedBy, lineAt, statedAt, LineFollows}
-use Rattle.sheets.specs.Good.{trailerFor, LaidOut, LineOk, GoodLine, Good}
-use Rattle.sheets.specs.Accepted.{listed, statedBy}
-use Rattle.sheets.specs.Withdrawal.{without, Uses, lowerPremise, lowered, trailerLoses, oldPlace, newWord, linesStart, linesEnd, sheetWithout, Unused}
+use Rattle.sheets.specs.Good.{Good}
+use Rattle.sheets.specs.GoodLines.{LineOk, GoodLine}
+use Rattle.sheets.specs.GoodLayout.{trailerFor, LaidOut}
+use Rattle.terms.specs.Lists.{listed, without}
+use Rattle.sheets.specs.Accepted.{statedBy}
+use Rattle.sheets.specs.Withdrawal.{Uses, lowerPremise, lowered, trailerLoses, oldPlace, newWord, linesStart, linesEnd, sheetWithout, Unused}
 use Rattle.sheets.specs.Output.{MovedLine, LineAway}
-use Rattle.sheets.proofs.TestLaws.{refutes, says-le, says-lt}
 use Rattle.sheets.proofs.WrittenLaws.{written-length, word-written, word-drop}
+use Rattle.sheets.proofs.SameTables.{terms-same, contexts-same, stated-same}
 use Rattle.sheets.proofs.AcceptedLaws.{stated-is}
 
 pub at-least : (i k : ℕ) → k ≤ i → ltb i k ≡ false
@@ -137,24 +133,12 @@ lower-ok l n m T C f o =
       rule = o .rule;
       form = o .form;
       numbers = o .numbers;
-      unusedFirst = o .unusedFirst;
-      unusedSecond = o .unusedSecond;
-      unusedThird = o .unusedThird;
+      unusedSubject = o .unusedSubject;
       earlier = λ j h k.
           subst (λ p. p < m) (sym (premise-lowered n l j h)) (lower-below n m (getD (premisesOf l) j 0) (λ e. f (j, h, k, e)) (o .earlier j h k));
       unusedPremise = λ j h k.
           premise-lowered n l j h ∙ ap (lowerPremise n) (o .unusedPremise j h k) ∙ lower-upto n 0 (omega arith);
     }
-
--- the same subjects that the form uses, in the same context
-said-same : (form : ℕ) (G H : Context) (a a′ b b′ A A′ : Term) → form ≤ 3 → G ≡ H → (1 ≤ form → a ≡ a′) → (2 ≤ form → b ≡ b′)
-    → (1 ≤ form → form ≤ 2 → A ≡ A′) → plainJudgment form G a b A ≡ plainJudgment form H a′ b′ A′
-unfolding plainJudgment
-said-same zero G H a a′ b b′ A A′ s e p q r = λ i. plainJudgment 0 (e i) a b A
-said-same (suc zero) G H a a′ b b′ A A′ s e p q r = λ i. plainJudgment 1 (e i) (p (omega arith) i) b (r (omega arith) (omega arith) i)
-said-same (suc (suc zero)) G H a a′ b b′ A A′ s e p q r = λ i. plainJudgment 2 (e i) (p (omega arith) i) (q (omega arith) i) (r (omega arith) (omega arith) i)
-said-same (suc (suc (suc zero))) G H a a′ b b′ A A′ s e p q r = λ i. plainJudgment 3 (e i) (p (omega arith) i) (q (omega arith) i) A
-said-same (suc (suc (suc (suc f)))) G H a a′ b b′ A A′ s e p q r = absurd (omega arith)
 
 -- the words of the new sheet, part by part
 module _ (b : List ℕ) (start end n i : ℕ) where
@@ -200,69 +184,8 @@ module _ (b : List ℕ) (T C L n : ℕ) (g : Good b T C L) (there : n < L) where
   head-word : (i : ℕ) → i < linesStart T C → wordAt new i ≡ wordAt b i
   head-word i h = word-new i (omega arith) ∙ new-head b (linesStart T C) (linesEnd T C L) n i h
 
-  -- the terms
-  row-same : (r j : ℕ) → r < T → j < 5 → word b r j ≡ word new r j
-  unfolding word
-  row-same r j h k = sym (head-word (5 * r + j) (omega arith))
-
-  term-same : (t : ℕ) → t < T → term b t ≡ term new t
-  term-same t h = same-term b T (downward b T (g .tables .terms)) new row-same t h
-
-  good-row : (r : ℕ) → r < T → GoodRow b r → GoodRow new r
-  unfolding tag
-  good-row r h o =
-      record {
-        low = subst (λ w. 1 ≤ w) (row-same r 0 h (omega arith)) (o .low);
-        high = subst (λ w. w ≤ 13) (row-same r 0 h (omega arith)) (o .high);
-        operands = λ j low high.
-            subst₂ (λ w t. w < limit (tagOf t) r j) (row-same r j h (omega arith)) (row-same r 0 h (omega arith)) (o .operands j low high);
-      }
-
-  terms : TermTable new T
-  terms =
-      let t = g .tables .terms in
-      record {
-        whole = omega (arith, new-long);
-        rows = λ r h. good-row r h (t .rows r h);
-        distinct = λ r s h k e. t .distinct r s h k (λ j l. row-same r j h l ∙ e j l ∙ sym (row-same s j k l));
-        sizes = λ r h. subst (λ u. size u ≤ 65535) (term-same r h) (t .sizes r h);
-      }
-
-  -- the contexts
-  context-word : (i : ℕ) → i < 2 * C → wordAt (contextsIn b T) i ≡ wordAt (contextsIn new T) i
-  unfolding contextsIn
-  context-word i h =
-      word-drop b (10 * T) (5 * T) i (omega arith) ∙ sym (word-drop new (10 * T) (5 * T) i (omega arith) ∙ head-word (5 * T + i) (omega arith))
-
-  parent-same : (k : ℕ) → 1 ≤ k → k ≤ C → parentOf (contextsIn b T) k ≡ parentOf (contextsIn new T) k
-  unfolding parentOf
-  parent-same k low high = context-word (2 * (k - 1)) (omega arith)
-
-  type-same : (k : ℕ) → 1 ≤ k → k ≤ C → typeOf (contextsIn b T) k ≡ typeOf (contextsIn new T) k
-  unfolding typeOf
-  type-same k low high = context-word (2 * (k - 1) + 1) (omega arith)
-
-  context-same : (k : ℕ) → k ≤ C → context b (contextsIn b T) k ≡ context new (contextsIn new T) k
-  context-same k h =
-      let t = g .tables .contexts in
-      same-context b (contextsIn b T) C (λ m low high. t .rows m low high .earlier) new (contextsIn new T) parent-same
-      (λ m low high. term-same (typeOf (contextsIn b T) m) (t .rows m low high .known) ∙ ap (term new) (type-same m low high)) k h
-
-  contexts : ContextTable (contextsIn new T) T C
-  unfolding contextsIn
-  contexts =
-      let t = g .tables .contexts in
-      record {
-        whole = omega (arith, new-long, length-drop (10 * T) new);
-        rows = λ k low high.
-            record {
-              earlier = subst (λ p. p < k) (parent-same k low high) (t .rows k low high .earlier);
-              known = subst (λ p. p < T) (type-same k low high) (t .rows k low high .known);
-            };
-        distinct = λ k m a c d e s.
-            t .distinct k m a c d e
-            (parent-same k a c ∙ s .0 ∙ sym (parent-same m d e), type-same k a c ∙ s .1 ∙ sym (type-same m d e));
-      }
+  same-words : (i : ℕ) → i < linesStart T C → wordAt b i ≡ wordAt new i
+  same-words i h = sym (head-word i h)
 
   -- the trailer
   trailer-word : (i loses : ℕ) → i < 8 → trailerLoses i ≡ loses → trailerWord new i ≡ trailerWord b i - loses
@@ -287,9 +210,9 @@ module _ (b : List ℕ) (T C L n : ℕ) (g : Good b T C L) (there : n < L) where
       let e1 : trailerWord b 1 ≡ C = ap (λ r. r .contexts) t in
       let e2 : trailerWord b 2 ≡ L = ap (λ r. r .lines) t in
       let e3 : trailerWord b 3 ≡ 1 = ap (λ r. r .edition) t in
-      let e4 : trailerWord b 4 ≡ toTerms T C L = ap (λ r. r .first) t in
-      let e5 : trailerWord b 5 ≡ toContexts C L = ap (λ r. r .second) t in
-      let e6 : trailerWord b 6 ≡ toLines L = ap (λ r. r .third) t in
+      let e4 : trailerWord b 4 ≡ toTerms T C L = ap (λ r. r .«to_terms») t in
+      let e5 : trailerWord b 5 ≡ toContexts C L = ap (λ r. r .«to_contexts») t in
+      let e6 : trailerWord b 6 ≡ toLines L = ap (λ r. r .«to_lines») t in
       let e7 : trailerWord b 7 ≡ 0x4C44 = ap (λ r. r .mark) t in
       let f0 : trailerWord new 0 ≡ T = omega (arith, trailer-word 0 0 (omega arith) refl) in
       let f1 : trailerWord new 1 ≡ C = omega (arith, trailer-word 1 0 (omega arith) refl) in
@@ -299,7 +222,7 @@ module _ (b : List ℕ) (T C L n : ℕ) (g : Good b T C L) (there : n < L) where
       let f5 : trailerWord new 5 ≡ toContexts C (L - 1) = omega (arith, trailer-word 5 20 (omega arith) refl) in
       let f6 : trailerWord new 6 ≡ toLines (L - 1) = omega (arith, trailer-word 6 20 (omega arith) refl) in
       let f7 : trailerWord new 7 ≡ 0x4C44 = omega (arith, trailer-word 7 0 (omega arith) refl) in
-      λ i. record { terms = f0 i; contexts = f1 i; lines = f2 i; edition = f3 i; first = f4 i; second = f5 i; third = f6 i; mark = f7 i }
+      λ i. record { terms = f0 i; contexts = f1 i; lines = f2 i; edition = f3 i; «to_terms» = f4 i; «to_contexts» = f5 i; «to_lines» = f6 i; mark = f7 i }
 
   laid : LaidOut new T C (L - 1)
   laid =
@@ -367,17 +290,11 @@ module _ (b : List ℕ) (T C L n : ℕ) (g : Good b T C L) (there : n < L) where
       at (yes l) = omega (arith, up-before n m l)
       at (no l) = omega (arith, up-behind n m (omega arith))
 
-  stated-same : (j : LineJudgment) → Numbered T C j → stated b (contextsIn b T) j ≡ stated new (contextsIn new T) j
-  unfolding stated
-  stated-same j k =
-      said-same (j .form) _ _ _ _ _ _ _ _ (k .form) (context-same (j .context) (k .within)) (λ h. term-same (j .s1) (k .first h))
-      (λ h. term-same (j .s2) (k .second h)) (λ h l. term-same (j .s3) (k .third h l))
-
   states : (m : ℕ) → m < L - 1 → statedAt new T C m ≡ statedAt b T C (up n m)
   unfolding statedAt judgmentOf lowerLine
   states m h =
       ap (λ l. stated new (contextsIn new T) (judgmentOf l)) (line-new m h)
-      ∙ sym (stated-same (judgmentOf (lineAt b T C (up n m))) (g .lines (up n m) (up-within m h) .ok .numbers))
+      ∙ sym (stated-same b new T C (g .tables .terms) (g .tables .contexts) same-words (judgmentOf (lineAt b T C (up n m))) (g .lines (up n m) (up-within m h) .ok .numbers))
 
   module _ (unused : Unused (linesIn b T C) L n) where
     not-used : (m : ℕ) → m < L - 1 → Uses (lineAt b T C (up n m)) n → ⊥
@@ -411,7 +328,12 @@ module _ (b : List ℕ) (T C L n : ℕ) (g : Good b T C L) (there : n < L) where
     unfolding LineFollows lowerLine
     good-without =
         record {
-          tables = record { laid = laid; terms = terms; contexts = contexts };
+          tables =
+              record {
+                laid = laid;
+                terms = terms-same b new T C (g .tables .terms) (g .tables .contexts) same-words (omega (arith, new-long));
+                contexts = contexts-same b new T C (g .tables .terms) (g .tables .contexts) same-words (omega (arith, new-long));
+              };
           lines = λ m h.
               record {
                 ok = subst (λ l. LineOk l m T C) (sym (line-new m h)) (lower-ok (lineAt b T C (up n m)) n m T C (not-used m h) (g .lines (up n m) (up-within m h) .ok));

@@ -1,7 +1,7 @@
 -- What the functions of withdrawal answer, from what their callees answer; what their callees ask.
 -- Assumes nothing.
 use mathlib.Core.Path.{_≡_, refl, sym, _∙_, ap, subst, subst₂}
-use mathlib.Core.Bool.{Bool, true, false, _&&_, _||_}
+use mathlib.Core.Bool.{_&&_, _||_}
 use mathlib.Core.List.{List, [], _∷_, _++_}
 use Prim.Native.Nat.{ℕ, suc, _+_, _-_, _*_, _/_, _%_, _≤_, _<_}
 use native.Mathlib.Numerals.{add-one}
@@ -9,8 +9,10 @@ use native.Mathlib.Omega.{arith}
 use lib.Dec.{ltb, eqb}
 use lib.ListN.{length, getD, set, take, drop, length-append, length-drop}
 use lib.Seq.{set-at, drop-cons, append-snoc}
-use Rattle.terms.specs.Words.{wordAt}
-use Rattle.terms.specs.Sizes.{over}
+use Rattle.terms.specs.Words.{wordAt, bytesOf}
+use Rattle.terms.specs.Search.{firstAt}
+use Rattle.terms.specs.Buffers.{over}
+use Rattle.terms.proofs.SearchLaws.{Looking, looking-start}
 use Rattle.rules.specs.RuleTable.{premiseCount}
 use Rattle.sheets.specs.declared.lines.Line.{Line}
 use Rattle.sheets.specs.declared.admission.Admission.{Admission}
@@ -21,14 +23,14 @@ use Rattle.sheets.specs.Layout.{linesIn}
 use Rattle.sheets.specs.Lines.{lineOf, lineAt}
 use Rattle.sheets.specs.Admission.{admitOf}
 use Rattle.sheets.specs.Good.{Good}
-use Rattle.sheets.specs.Accepted.{listed}
-use Rattle.sheets.specs.Withdrawal.{bytesOf, uses, KnownRules, firstUseFrom, firstUse, newLength, afterUse, afterLine, withdrawAfter, withdrawOf, lowered, trailerLoses, oldPlace, newWord, linesStart, linesEnd, sheetWithout, outFrom, outAfter, Withdrawn}
+use Rattle.terms.specs.Lists.{listed}
+use Rattle.sheets.specs.Withdrawal.{uses, KnownRules, firstUse, newLength, afterUse, afterLine, withdrawAfter, withdrawOf, lowered, trailerLoses, oldPlace, newWord, linesStart, linesEnd, sheetWithout, outFrom, outAfter, KeepsTheOthers}
 use Rattle.sheets.proofs.BufferLaws.{over-length}
 use Rattle.sheets.proofs.AdmissionLaws.{accepted-is}
-use Rattle.sheets.proofs.LineAnswers.{part-is}
+use Rattle.sheets.proofs.BufferLaws.{part-to-end}
 use Rattle.sheets.proofs.WrittenLaws.{written, written-length, written-next}
 use Rattle.sheets.proofs.SheetWithout.{new-line, new-trailer}
-use Rattle.sheets.proofs.WithdrawalLaws.{use-here, use-next, line-missing, line-there, use-refused, room-refused, room-enough, without-counted, withdrawal-keeps}
+use Rattle.sheets.proofs.WithdrawalLaws.{line-missing, line-there, use-refused, room-refused, room-enough, without-counted, withdrawal-keeps}
 
 -- `uses_line`
 pub uses-told : (l : Line) (n c : ℕ) → c ≡ premiseCount (l .rule)
@@ -36,44 +38,13 @@ pub uses-told : (l : Line) (n c : ℕ) → c ≡ premiseCount (l .rule)
 unfolding uses
 uses-told l n c e = ap (λ k. (ltb 0 k && eqb (l .p0) n) || (ltb 1 k && eqb (l .p1) n) || (ltb 2 k && eqb (l .p2) n) || (ltb 3 k && eqb (l .p3) n)) e
 
--- `first_use`: before line k the search of the remaining lines answers for the whole
-module _ (lines : List ℕ) (count n : ℕ) where
-  pub record Searching (k : ℕ) : Type 0 where
-    pub later : n < k
-    pub within : k ≤ count
-    pub future : firstUseFrom (count - k) lines n k ≡ firstUse lines count n
-
-  pub searching-start : n < count → Searching (n + 1)
-  unfolding firstUse
-  searching-start h = record { later = omega arith; within = omega arith; future = ap (λ m. firstUseFrom (count - m) lines n m) (add-one n) }
-
-  module _ (k : ℕ) (at : Searching k) where
-    pub searching-end : count ≤ k → k ≡ firstUse lines count n
-    unfolding firstUseFrom
-    searching-end h = ap (λ m. firstUseFrom m lines n k) none ∙ at .future
-      where
-        none : 0 ≡ count - k
-        none = omega arith
-
-    module _ (l : Line) (b : Bool) (h : k < count) (e : l ≡ lineOf lines k) (d : b ≡ uses l n) where
-      more : count - k ≡ suc (count - (k + 1))
-      more = omega arith
-
-      told : (a : Bool) → b ≡ a → uses (lineOf lines k) n ≡ a
-      told a f = ap (λ m. uses m n) (sym e) ∙ sym d ∙ f
-
-      pub searching-here : b ≡ true → k ≡ firstUse lines count n
-      searching-here f = sym (ap (λ m. firstUseFrom m lines n k) more ∙ use-here lines n (count - (k + 1)) k (told true f)) ∙ at .future
-
-      pub searching-next : b ≡ false → Searching (k + 1)
-      searching-next f =
-          record {
-            later = omega (arith, at .later);
-            within = omega arith;
-            future =
-                ap (firstUseFrom (count - (k + 1)) lines n) (add-one k)
-                ∙ sym (ap (λ m. firstUseFrom m lines n k) more ∙ use-next lines n (count - (k + 1)) k (told false f)) ∙ at .future;
-          }
+-- `first_use`: the lines behind line n are ahead
+pub uses-ahead : (lines : List ℕ) (count n : ℕ) → n < count
+    → Looking (λ k. uses (lineOf lines k) n) (λ k. k) count count (firstUse lines count n) (n + 1)
+unfolding firstUse
+uses-ahead lines count n h =
+    looking-start (count - suc n) (omega arith)
+    (ap (λ m. firstAt (λ k. uses (lineOf lines k) n) (λ k. k) count (count - suc n) m) (add-one n))
 
 -- `new_word`
 module _ (b : List ℕ) (start end n i : ℕ) where
@@ -148,12 +119,12 @@ module _ (b : List ℕ) (T C L n : ℕ) (g : Good b T C L) where
 
   part-lines : part ≡ linesIn b T C
   unfolding linesIn
-  part-lines = part-is b (10 * T + 4 * C)
+  part-lines = part-to-end b (10 * T + 4 * C)
 
   pub known-lines : n < L → (20 * L ≤ length part) × (n < L) × KnownRules part L
   unfolding lineAt
   known-lines h = (
-    omega (arith, g .tables .laid .long, length-drop (10 * T + 4 * C) b, ap length (part-is b (10 * T + 4 * C))),
+    omega (arith, g .tables .laid .long, length-drop (10 * T + 4 * C) b, ap length (part-to-end b (10 * T + 4 * C))),
     h,
     subst (λ l. KnownRules l L) (sym part-lines) (λ k l. g .lines k l .ok .rule),
   )
@@ -189,8 +160,8 @@ module _ (b : List ℕ) (T C L n : ℕ) (g : Good b T C L) where
 
 -- `withdraw`, where a is the answer of admission
 module _ (b : List ℕ) (n work : ℕ) (before : List ℕ) where
-  pub kept : (after : List ℕ) (r : Withdrawal) → r ≡ withdrawOf b n work (length before) → after ≡ outAfter b n work before → Withdrawn b n after r
-  kept after r e f = subst₂ (Withdrawn b n) (sym f) (sym e) (withdrawal-keeps b n work before)
+  pub kept : (after : List ℕ) (r : Withdrawal) → r ≡ withdrawOf b n work (length before) → after ≡ outAfter b n work before → KeepsTheOthers b n after r
+  kept after r e f = subst₂ (KeepsTheOthers b n) (sym f) (sym e) (withdrawal-keeps b n work before)
 
   module _ (a : Admission) (e : a ≡ admitOf b work) where
     pub handed-on : (number place : ℕ) → a ≡ notAdmitted number place

@@ -1,21 +1,21 @@
--- Withdrawal, on a sheet that admission accepts: each answer is given exactly if it means what document 01 says. On any other sheet
--- admission's refusal is answered. Demand 3 (c).
+-- Withdrawal, on a sheet that admission accepts: each answer is given exactly if it means what document 01 says. On any
+-- other sheet admission's refusal is answered. Demand 3 (c).
 -- Assumes nothing.
 use mathlib.Core.Path.{_≡_, refl, sym, _∙_, ap, subst}
 use mathlib.Core.Logic.{_↔_, _⊎_, inl, inr, ⊎-elim}
-use mathlib.Core.Bool.{Bool, true, false, _&&_, _||_}
+use mathlib.Core.Bool.{Bool, _&&_}
 use mathlib.Core.List.{List}
-use Prim.Native.Nat.{ℕ, zero, suc, _+_, _-_, _≤_, _<_}
+use Prim.Native.Nat.{ℕ, zero, suc, _-_, _≤_, _<_}
 use native.Mathlib.Decide.{decLt}
-use native.Mathlib.Nat.{eq-or-lt-of-le}
 use native.Mathlib.Omega.{arith}
 use lib.Dec.{ltb, eqb}
 use lib.ListN.{length, getD, take, drop}
 use lib.Seq.{take-at}
 use borrow.Author.Tests.{lt-ltb}
 use Rattle.terms.specs.Decides.{Decides}
-use Rattle.terms.specs.Sizes.{over}
-use Rattle.terms.proofs.Tests.{refuted, decides-via, decides-both, decides-either}
+use Rattle.terms.specs.Buffers.{over}
+use Rattle.terms.proofs.Tests.{says-lt, says-eq, decides-via, _&_, decides-either}
+use Rattle.terms.proofs.SearchLaws.{stops, passes, search-means, FirstOf, first-tells}
 use Rattle.rules.specs.RuleTable.{premiseCount}
 use Rattle.sheets.specs.declared.lines.Line.{Line}
 use Rattle.sheets.specs.declared.admission.Admission.{Admission}
@@ -25,10 +25,10 @@ use Rattle.sheets.specs.declared.withdrawal.Withdrawal.the-variants.{Wri
 use Rattle.sheets.specs.Layout.{linesIn}
 use Rattle.sheets.specs.Lines.{lineOf, premisesOf}
 use Rattle.sheets.specs.Admission.{admitOf}
-use Rattle.sheets.specs.Good.{trailerFor, Good}
+use Rattle.sheets.specs.Good.{Good}
+use Rattle.sheets.specs.GoodLayout.{trailerFor}
 use Rattle.sheets.specs.Accepted.{IsAccepted, statedBy}
-use Rattle.sheets.specs.Withdrawal.{uses, Uses, firstUseFrom, firstUse, newLength, afterUse, afterLine, withdrawAfter, withdrawOf, sheetWithout, withoutLine, outFrom, outAfter, LowestUse, Unused, WithdrawalMeans, missing, used, short, written, Withdrawn}
-use Rattle.sheets.proofs.TestLaws.{either, says-lt, says-eq}
+use Rattle.sheets.specs.Withdrawal.{uses, Uses, firstUse, newLength, afterUse, afterLine, withdrawAfter, withdrawOf, sheetWithout, withoutLine, outFrom, outAfter, LowestUse, Unused, AdmittedWithdrawalMeans, missing, used, short, written, KeepsTheOthers}
 use Rattle.sheets.proofs.AdmissionLaws.{accepted-is}
 use Rattle.sheets.proofs.AcceptedLaws.{good-accepted}
 use Rattle.sheets.proofs.SheetWithout.{at-least, new-long, good-without, stated-without}
@@ -54,84 +54,48 @@ four-uses l n = (
 pub uses-says : (l : Line) (n : ℕ) → Decides (uses l n) (Uses l n)
 unfolding uses premisesOf
 uses-says l n =
-    decides-via (uses l n) (four-uses l n)
-    (decides-either (at 0 (l .p0) || at 1 (l .p1) || at 2 (l .p2)) (at 3 (l .p3))
-    (decides-either (at 0 (l .p0) || at 1 (l .p1)) (at 2 (l .p2))
-    (decides-either (at 0 (l .p0)) (at 1 (l .p1)) (says 0 (l .p0)) (says 1 (l .p1))) (says 2 (l .p2))) (says 3 (l .p3)))
+    decides-via (four-uses l n) (decides-either (decides-either (decides-either (says 0 (l .p0)) (says 1 (l .p1))) (says 2 (l .p2))) (says 3 (l .p3)))
   where
     at : ℕ → ℕ → Bool
     at j p = ltb j (premiseCount (l .rule)) && eqb p n
 
     says : (j p : ℕ) → Decides (at j p) ((j < premiseCount (l .rule)) × (p ≡ n))
-    says j p = decides-both (ltb j (premiseCount (l .rule))) (eqb p n) (says-lt j (premiseCount (l .rule))) (says-eq p n)
+    says j p = says-lt j (premiseCount (l .rule)) & says-eq p n
 
-module _ (lines : List ℕ) (n : ℕ) where
-  -- the ways through one line
-  module _ (more k : ℕ) where
-    pub use-here : uses (lineOf lines k) n ≡ true → firstUseFrom (suc more) lines n k ≡ k
-    unfolding firstUseFrom
-    use-here e = rw (e, firstUseFrom)
+module _ (lines : List ℕ) (n L : ℕ) (h : n < L) where
+  -- what the search for a use answers
+  abbrev First : ℕ → Type 0
+  First = FirstOf (λ k. Uses (lineOf lines k) n) (λ k. k) L (suc n) L
 
-    pub use-next : uses (lineOf lines k) n ≡ false → firstUseFrom (suc more) lines n k ≡ firstUseFrom more lines n (suc k)
-    unfolding firstUseFrom
-    use-next e = rw (e, firstUseFrom)
+  first-means : (p : ℕ) → (firstUse lines L n ≡ p) ↔ First p
+  unfolding firstUse
+  first-means =
+      search-means (first-tells (λ k. Uses (lineOf lines k) n) (λ k. k) (λ k. uses-says (lineOf lines k) n))
+      L (L - suc n) (suc n) L (omega arith)
 
-  -- what the search of the next lines answers
-  record FirstFrom (more k r : ℕ) : Type 0 where
-    low : k ≤ r
-    high : r ≤ k + more
-    none : (i : ℕ) → k ≤ i → i < r → Uses (lineOf lines i) n → ⊥
-    has : r < k + more → Uses (lineOf lines r) n
+  first : First (firstUse lines L n)
+  first = first-means (firstUse lines L n) .0 refl
 
-  first-from : (more k : ℕ) → FirstFrom more k (firstUseFrom more lines n k)
-  unfolding firstUseFrom
-  first-from zero k = record { low = omega arith; high = omega arith; none = λ i a c. absurd (omega arith); has = λ h. absurd (omega arith) }
-  first-from (suc more) k = at (first-from more (suc k)) (either _)
+  pub use-lowest : firstUse lines L n < L → LowestUse lines L n (firstUse lines L n)
+  use-lowest l = from first
     where
-      at : FirstFrom more (suc k) (firstUseFrom more lines n (suc k)) → (uses (lineOf lines k) n ≡ true) ⊎ (uses (lineOf lines k) n ≡ false)
-          → FirstFrom (suc more) k (firstUseFrom (suc more) lines n k)
-      at rest (inl e) =
-          subst (FirstFrom (suc more) k) (sym (use-here more k e))
-          (record { low = omega arith; high = omega arith; none = λ i a c. absurd (omega arith); has = λ h. uses-says _ n .0 e })
-      at rest (inr e) =
-          subst (FirstFrom (suc more) k) (sym (use-next more k e))
-          (record {
-            low = omega (arith, rest .low);
-            high = omega (arith, rest .high);
-            none = λ i a c. from i (eq-or-lt-of-le a) c;
-            has = λ h. rest .has (omega arith);
-          })
-        where
-          from : (i : ℕ) → (k ≡ i) ⊎ (k < i) → i < firstUseFrom more lines n (suc k) → Uses (lineOf lines i) n → ⊥
-          from i (inl f) c = subst (λ m. Uses (lineOf lines m) n → ⊥) f (refuted _ (uses-says _ n) e)
-          from i (inr l) c = rest .none i l c
+      from : First (firstUse lines L n) → LowestUse lines L n (firstUse lines L n)
+      from (stops p low high before x) =
+          subst (LowestUse lines L n) (sym (x .1)) (record { later = low; within = high; uses = x .0; lowest = before })
+      from (passes all e) = absurd (omega arith)
 
-  module _ (L : ℕ) (h : n < L) where
-    first : FirstFrom (L - suc n) (suc n) (firstUse lines L n)
-    unfolding firstUse
-    first = first-from (L - suc n) (suc n)
+  pub use-none : L ≤ firstUse lines L n → Unused lines L n
+  use-none l = from first
+    where
+      from : First (firstUse lines L n) → Unused lines L n
+      from (stops p low high before x) = absurd (omega (arith, x .1))
+      from (passes all e) = all
 
-    pub use-lowest : firstUse lines L n < L → LowestUse lines L n (firstUse lines L n)
-    use-lowest l =
-        record { later = omega (arith, first .low); within = l; uses = first .has (omega arith); lowest = λ k a c. first .none k (omega arith) c }
+  pub lowest-use : (p : ℕ) → LowestUse lines L n p → firstUse lines L n ≡ p
+  lowest-use p u = first-means p .1 (stops p (u .later) (u .within) (u .lowest) (u .uses, refl))
 
-    pub use-none : L ≤ firstUse lines L n → Unused lines L n
-    use-none l k a c = first .none k (omega arith) (omega arith)
-
-    pub lowest-use : (p : ℕ) → LowestUse lines L n p → firstUse lines L n ≡ p
-    lowest-use p u = at (decLt (firstUse lines L n) p) (decLt p (firstUse lines L n))
-      where
-        at : Dec (firstUse lines L n < p) → Dec (p < firstUse lines L n) → firstUse lines L n ≡ p
-        at (yes l) d = absurd (u .lowest (firstUse lines L n) (omega (arith, first .low)) l (first .has (omega (arith, u .within))))
-        at (no l) (yes m) = absurd (first .none p (omega (arith, u .later)) m (u .uses))
-        at (no l) (no m) = omega arith
-
-    pub none-use : Unused lines L n → L ≤ firstUse lines L n
-    none-use f = at (decLt (firstUse lines L n) L)
-      where
-        at : Dec (firstUse lines L n < L) → L ≤ firstUse lines L n
-        at (yes l) = absurd (f (firstUse lines L n) (omega (arith, first .low)) l (first .has (omega arith)))
-        at (no l) = omega arith
+  pub none-use : Unused lines L n → L ≤ firstUse lines L n
+  none-use f = omega (arith, first-means L .1 (passes f refl))
 
 -- the ways through 11, 12 and 13
 module _ (bytes : List ℕ) (T C L n room : ℕ) where
@@ -155,11 +119,11 @@ module _ (bytes : List ℕ) (T C L n room : ℕ) where
   unfolding afterUse
   room-enough p h k = rw (at-least p L h, at-least room (newLength T C L) k, afterUse)
 
-  means : WithdrawalMeans bytes T C L n room (afterLine bytes T C L n room)
+  means : AdmittedWithdrawalMeans bytes T C L n room (afterLine bytes T C L n room)
   means = at (decLt n L)
     where
       Means : Withdrawal → Type 0
-      Means = WithdrawalMeans bytes T C L n room
+      Means = AdmittedWithdrawalMeans bytes T C L n room
 
       place : ℕ
       place = firstUse (linesIn bytes T C) L n
@@ -176,7 +140,7 @@ module _ (bytes : List ℕ) (T C L n room : ℕ) where
       at (yes h) = subst Means (sym (line-there h)) (on-use h (decLt place L))
       at (no h) = subst Means (sym (line-missing (omega arith))) (missing (omega arith))
 
-  back : {a : Withdrawal} → WithdrawalMeans bytes T C L n room a → afterLine bytes T C L n room ≡ a
+  back : {a : Withdrawal} → AdmittedWithdrawalMeans bytes T C L n room a → afterLine bytes T C L n room ≡ a
   back (missing h) = line-missing h
   back (used {p} h u) =
       let e = lowest-use (linesIn bytes T C) n L h p u in
@@ -196,9 +160,9 @@ module _ (bytes : List ℕ) (n work room : ℕ) where
     withdrawn-by = ap (withdrawAfter bytes n room) accepted
 
     -- on an accepted sheet an answer is given exactly if it means what it should
-    pub withdrawn-is : (a : Withdrawal) → (withdrawOf bytes n work room ≡ a) ↔ WithdrawalMeans bytes T C L n room a
+    pub withdrawn-is : (a : Withdrawal) → (withdrawOf bytes n work room ≡ a) ↔ AdmittedWithdrawalMeans bytes T C L n room a
     withdrawn-is a = (
-      λ e. subst (WithdrawalMeans bytes T C L n room) (sym withdrawn-by ∙ e) (means bytes T C L n room),
+      λ e. subst (AdmittedWithdrawalMeans bytes T C L n room) (sym withdrawn-by ∙ e) (means bytes T C L n room),
       λ m. withdrawn-by ∙ back bytes T C L n room m,
     )
 
@@ -206,25 +170,25 @@ module _ (bytes : List ℕ) (n work room : ℕ) where
     pub missing-is : (withdrawOf bytes n work room ≡ Refused 11 n) ↔ (L ≤ n)
     missing-is = (λ e. from (withdrawn-is (Refused 11 n) .0 e), λ h. withdrawn-is (Refused 11 n) .1 (missing h))
       where
-        from : {p : ℕ} → WithdrawalMeans bytes T C L n room (Refused 11 p) → L ≤ n
+        from : {p : ℕ} → AdmittedWithdrawalMeans bytes T C L n room (Refused 11 p) → L ≤ n
         from (missing h) = h
 
     pub used-is : (p : ℕ) → (withdrawOf bytes n work room ≡ Refused 12 p) ↔ ((n < L) × LowestUse (linesIn bytes T C) L n p)
     used-is p = (λ e. from (withdrawn-is (Refused 12 p) .0 e), λ h. withdrawn-is (Refused 12 p) .1 (used (h .0) (h .1)))
       where
-        from : WithdrawalMeans bytes T C L n room (Refused 12 p) → (n < L) × LowestUse (linesIn bytes T C) L n p
+        from : AdmittedWithdrawalMeans bytes T C L n room (Refused 12 p) → (n < L) × LowestUse (linesIn bytes T C) L n p
         from (used h u) = (h, u)
 
     pub short-is : (withdrawOf bytes n work room ≡ Refused 13 0) ↔ ((n < L) × Unused (linesIn bytes T C) L n × (room < newLength T C L))
     short-is = (λ e. from (withdrawn-is (Refused 13 0) .0 e), λ h. withdrawn-is (Refused 13 0) .1 (short (h .0) (h .1) (h .2)))
       where
-        from : {p : ℕ} → WithdrawalMeans bytes T C L n room (Refused 13 p) → (n < L) × Unused (linesIn bytes T C) L n × (room < newLength T C L)
+        from : {p : ℕ} → AdmittedWithdrawalMeans bytes T C L n room (Refused 13 p) → (n < L) × Unused (linesIn bytes T C) L n × (room < newLength T C L)
         from (short h u k) = (h, u, k)
 
     pub written-is : (withdrawOf bytes n work room ≡ Written (newLength T C L)) ↔ ((n < L) × Unused (linesIn bytes T C) L n × (newLength T C L ≤ room))
     written-is = (λ e. from (withdrawn-is _ .0 e), λ h. withdrawn-is _ .1 (written (h .0) (h .1) (h .2)))
       where
-        from : {l : ℕ} → WithdrawalMeans bytes T C L n room (Written l) → (n < L) × Unused (linesIn bytes T C) L n × (newLength T C L ≤ room)
+        from : {l : ℕ} → AdmittedWithdrawalMeans bytes T C L n room (Written l) → (n < L) × Unused (linesIn bytes T C) L n × (newLength T C L ≤ room)
         from (written h u k) = (h, u, k)
 
 -- demand 3 (c)
@@ -244,8 +208,8 @@ module _ (bytes : List ℕ) (n work : ℕ) (before : List ℕ) where
         take-at (withoutLine bytes n) (drop (length (withoutLine bytes n)) before) (newLength T C L) (without-long h)
         ∙ without-counted
 
-    on-means : {a : Withdrawal} → WithdrawalMeans bytes T C L n (length before) a → Withdrawn bytes n (outFrom bytes n before a) a
-    unfolding Withdrawn outFrom newLength
+    on-means : {a : Withdrawal} → AdmittedWithdrawalMeans bytes T C L n (length before) a → KeepsTheOthers bytes n (outFrom bytes n before a) a
+    unfolding KeepsTheOthers outFrom newLength
     on-means (missing h) = tt
     on-means (used h u) = tt
     on-means (short h u k) = tt
@@ -255,11 +219,11 @@ module _ (bytes : List ℕ) (n work : ℕ) (before : List ℕ) where
       ap statedBy (new-sheet h) ∙ stated-without bytes T C L n g h u,
     )
 
-  on-admission : (a : Admission) → admitOf bytes work ≡ a → Withdrawn bytes n (outFrom bytes n before (withdrawAfter bytes n (length before) a)) (withdrawAfter bytes n (length before) a)
-  unfolding Withdrawn withdrawAfter
+  on-admission : (a : Admission) → admitOf bytes work ≡ a → KeepsTheOthers bytes n (outFrom bytes n before (withdrawAfter bytes n (length before) a)) (withdrawAfter bytes n (length before) a)
+  unfolding KeepsTheOthers withdrawAfter
   on-admission (notAdmitted number place) e = tt
   on-admission (Accepted T C L) e = on-means T C L (accepted-is bytes work T C L .0 e .0) (means bytes T C L n (length before))
 
-  pub withdrawal-keeps : Withdrawn bytes n (outAfter bytes n work before) (withdrawOf bytes n work (length before))
+  pub withdrawal-keeps : KeepsTheOthers bytes n (outAfter bytes n work before) (withdrawOf bytes n work (length before))
   unfolding outAfter withdrawOf
   withdrawal-keeps = on-admission (admitOf bytes work) refl

@@ -1,4 +1,5 @@
--- Bytes from words, low byte first: what is written is read back, from the head and from behind a part that is left out.
+-- Bytes from words, low byte first: what is written is read back, from the head and from behind a part that is left
+-- out.
 -- Assumes nothing.
 use mathlib.Core.Path.{_≡_, refl, sym, _∙_, ap}
 use mathlib.Core.List.{List, [], _∷_, _++_}
@@ -6,10 +7,8 @@ use Prim.Native.Nat.{ℕ, zero, suc, _+_, _*_, _/_, _%_, _<_}
 use native.Mathlib.Omega.{arith}
 use lib.ListN.{length, getD, drop}
 use lib.Seq.{getD-drop}
-use Rattle.terms.specs.Words.{wordAt}
-use Rattle.terms.specs.Table.{AllBelow}
-use Rattle.sheets.specs.Accepted.{listed}
-use Rattle.sheets.specs.Withdrawal.{bytesOf}
+use Rattle.terms.specs.Words.{wordAt, bytesOf}
+use Rattle.terms.specs.Lists.{AllBelow, listed}
 
 -- the words f 0, f 1 and so on, n of them
 abbrev pub written : (ℕ → ℕ) → ℕ → List ℕ

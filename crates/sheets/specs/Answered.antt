@@ -1,5 +1,6 @@
--- What each answer of finding and of withdrawal means, for any sheet and work buffer: document 01, "Withdrawal and finding admit the sheet
--- first and return its refusal, then 11, 12, 13, or 14". Admission's refusals have numbers 1 to 10, so no answer means two things.
+-- What each answer of finding and of withdrawal means, for any sheet and work buffer: document 01, "Withdrawal and
+-- finding admit the sheet first and return its refusal, then 11, 12, 13, or 14". Admission's refusals have numbers 1 to
+-- 10, so no answer means two things.
 use mathlib.Core.List.{List}
 use Prim.Native.Nat.{ℕ, _≤_, _<_}
 use Rattle.sheets.specs.declared.finding.Wanted.{Wanted}
@@ -8,8 +9,9 @@ use Rattle.sheets.specs.declared.finding.Found.the-variants.{Line, Refus
 use Rattle.sheets.specs.declared.withdrawal.Withdrawal.{Withdrawal}
 use Rattle.sheets.specs.declared.withdrawal.Withdrawal.the-variants.{Refused}
 use Rattle.sheets.specs.Layout.{linesIn}
-use Rattle.sheets.specs.Good.{Good, FirstFault, LineHas, LowestLine}
-use Rattle.sheets.specs.Withdrawal.{WithdrawalMeans}
+use Rattle.sheets.specs.Good.{Good, FirstFault}
+use Rattle.sheets.specs.Finding.{LineHas, LowestLine}
+use Rattle.sheets.specs.Withdrawal.{AdmittedWithdrawalMeans}
 
 pub data FoundMeans (bytes : List ℕ) (work : ℕ) (w : Wanted) : Found → Type 0 where
   faulty : {number place : ℕ} → FirstFault bytes work number place → FoundMeans bytes work w (notFound number place)
@@ -18,6 +20,6 @@ pub data FoundMeans (bytes : List ℕ) (work : ℕ) (w : Wanted) : Found → Typ
       → FoundMeans bytes work w (notFound 14 0)
 
 -- for line n and an output of so many bytes
-pub data WithdrawnMeans (bytes : List ℕ) (work n room : ℕ) : Withdrawal → Type 0 where
-  unfit : {number place : ℕ} → FirstFault bytes work number place → WithdrawnMeans bytes work n room (Refused number place)
-  admitted : {T C L : ℕ} {a : Withdrawal} → Good bytes T C L → T ≤ work → WithdrawalMeans bytes T C L n room a → WithdrawnMeans bytes work n room a
+pub data WithdrawalMeans (bytes : List ℕ) (work n room : ℕ) : Withdrawal → Type 0 where
+  unfit : {number place : ℕ} → FirstFault bytes work number place → WithdrawalMeans bytes work n room (Refused number place)
+  admitted : {T C L : ℕ} {a : Withdrawal} → Good bytes T C L → T ≤ work → AdmittedWithdrawalMeans bytes T C L n room a → WithdrawalMeans bytes work n room a

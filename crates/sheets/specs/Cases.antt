@@ -1,5 +1,5 @@
--- M1 to M11 of document 01, "Sample sheets", as one table of cases: a sheet, a work buffer and, for a withdrawal, a line's number and an
--- output; what is answered, and what is left in both.
+-- M1 to M11 of document 01, "Sample sheets", as one table of cases: a sheet, a work buffer and, for a withdrawal, a
+-- line's number and an output; what is answered, and what is left in both.
 use mathlib.Core.List.{List, [], _∷_, _++_}
 use Prim.Native.Nat.{ℕ, zero, suc, _+_, _*_}
 use lib.ListN.{length, set, replicate}
@@ -8,7 +8,8 @@ use Rattle.sheets.specs.declared.admission.Admission.the-variants.{Accep
 use Rattle.sheets.specs.Admission.{admitOf, workAfter}
 use Rattle.sheets.specs.declared.withdrawal.Withdrawal.{Withdrawal}
 use Rattle.sheets.specs.declared.withdrawal.Withdrawal.the-variants.{Written, Refused as noWithdrawal}
-use Rattle.sheets.specs.Withdrawal.{bytesOf, withdrawOf, outAfter}
+use Rattle.terms.specs.Words.{bytesOf}
+use Rattle.sheets.specs.Withdrawal.{withdrawOf, outAfter}
 
 -- the words of S before line 4
 unfoldable pub sharedWords : List ℕ
@@ -58,7 +59,8 @@ doubling more = 10 ∷ 0 ∷ 0 ∷ 0 ∷ 0 ∷ applied more 0 ++ suc more ∷ 0 
 unfoldable pub doubledSizes : List ℕ
 doubledSizes = 1 ∷ 3 ∷ 7 ∷ 15 ∷ 31 ∷ 63 ∷ 127 ∷ 255 ∷ 511 ∷ 1023 ∷ 2047 ∷ 4095 ∷ 8191 ∷ 16383 ∷ 32767 ∷ 65535 ∷ []
 
--- what is asked of a sheet, with the answer: its admission, or the withdrawal of a line into an output, with what that holds afterwards
+-- what is asked of a sheet, with the answer: its admission, or the withdrawal of a line into an output, with what that
+-- holds afterwards
 pub data Request : Type 0 where
   admission : Admission → Request
   withdrawal : (line : ℕ) (out : List ℕ) → Withdrawal → (after : List ℕ) → Request

@@ -1,8 +1,11 @@
--- What a search for a judgment answers: document 01, "What the desk says". The search itself stands apart from admission.
-use mathlib.Core.Bool.{Bool, true, false, _&&_}
+-- What a search for a judgment answers: document 01, "What the desk says"; and what it means, without computing, that a
+-- line is the lowest with the numbers. The search itself stands apart from admission.
+use mathlib.Core.Path.{_≡_}
+use mathlib.Core.Bool.{Bool, _&&_}
 use mathlib.Core.List.{List}
-use Prim.Native.Nat.{ℕ, zero, suc}
+use Prim.Native.Nat.{ℕ, _<_}
 use lib.Dec.{eqb}
+use Rattle.terms.specs.Search.{firstAt}
 use Rattle.rules.specs.declared.judgments.LineJudgment.{LineJudgment}
 use Rattle.sheets.specs.declared.admission.Admission.{Admission}
 use Rattle.sheets.specs.declared.admission.Admission.the-variants.{Accepted, Refused as notAdmitted}
@@ -17,14 +20,9 @@ use Rattle.sheets.specs.Admission.{admitOf}
 unfoldable pub hasNumbers : LineJudgment → Wanted → Bool
 hasNumbers j w = eqb (j .form) (w .form) && eqb (j .context) (w .context) && eqb (j .s1) (w .s1) && eqb (j .s2) (w .s2) && eqb (j .s3) (w .s3)
 
--- the search of the next lines, as many as the first argument says, from line n on; number 14 if none has the numbers
-unfoldable pub searchFrom : ℕ → List ℕ → Wanted → ℕ → Found
-searchFrom zero lines w n = Refused 14 0
-searchFrom (suc more) lines w n = elim (hasNumbers (judgmentOf (lineOf lines n)) w) [ true ↦ Line n | false ↦ searchFrom more lines w (suc n) ]
-
--- the lowest of the first count lines that has the numbers
+-- the lowest of the first count lines that has the numbers; number 14 if none has
 unfoldable pub searchLines : List ℕ → ℕ → Wanted → Found
-searchLines lines count w = searchFrom count lines w 0
+searchLines lines count w = firstAt (λ n. hasNumbers (judgmentOf (lineOf lines n)) w) Line (Refused 14 0) count 0
 
 -- "Withdrawal and finding admit the sheet first and return its refusal"
 unfoldable pub findAfter : List ℕ → Wanted → Admission → Found
@@ -33,3 +31,21 @@ findAfter bytes w (Accepted terms contexts lines) = searchLines (linesIn bytes t
 
 unfoldable pub findOf : List ℕ → ℕ → Wanted → Found
 findOf bytes work w = findAfter bytes w (admitOf bytes work)
+
+-- a judgment has the five numbers that are looked for
+pub record HasNumbers (j : LineJudgment) (w : Wanted) : Type 0 where
+  pub form : j .form ≡ w .form
+  pub context : j .context ≡ w .context
+  pub s1 : j .s1 ≡ w .s1
+  pub s2 : j .s2 ≡ w .s2
+  pub s3 : j .s3 ≡ w .s3
+
+-- line n of the lines has them
+abbrev pub LineHas : List ℕ → Wanted → ℕ → Type 0
+LineHas lines w n = HasNumbers (judgmentOf (lineOf lines n)) w
+
+-- line i is the lowest of the first count lines that has them
+pub record LowestLine (lines : List ℕ) (count : ℕ) (w : Wanted) (i : ℕ) : Type 0 where
+  pub within : i < count
+  pub has : LineHas lines w i
+  pub lowest : (n : ℕ) → n < i → LineHas lines w n → ⊥

@@ -1,5 +1,5 @@
--- The layout of a sheet: document 01, "The sheet", and numbers 1 to 4 of "What the desk says". Terms come first, then contexts, then
--- lines, then a trailer of 8 words.
+-- The layout of a sheet: document 01, "The sheet", and numbers 1 to 4 of "What the desk says". Terms come first, then
+-- contexts, then lines, then a trailer of 8 words.
 use mathlib.Core.Bool.{Bool, true, false, _&&_}
 use mathlib.Core.List.{List}
 use Prim.Native.Nat.{ℕ, _+_, _-_, _*_}
@@ -10,7 +10,8 @@ use Rattle.sheets.specs.declared.layout.Trailer.{Trailer}
 use Rattle.sheets.specs.declared.layout.Layout.{Layout}
 use Rattle.sheets.specs.declared.layout.Layout.the-variants.{Counted, Wrong}
 
--- The terms stand at the head of the bytes, 10 bytes a row; the contexts, 4 bytes a row, behind them; the lines, 20 bytes each, behind these.
+-- The terms stand at the head of the bytes, 10 bytes a row; the contexts, 4 bytes a row, behind them; the lines, 20
+-- bytes each, behind these.
 unfoldable pub contextsIn : List ℕ → ℕ → List ℕ
 contextsIn bytes terms = drop (10 * terms) bytes
 
@@ -29,9 +30,9 @@ trailerOf bytes =
       contexts = trailerWord bytes 1;
       lines = trailerWord bytes 2;
       edition = trailerWord bytes 3;
-      first = trailerWord bytes 4;
-      second = trailerWord bytes 5;
-      third = trailerWord bytes 6;
+      «to_terms» = trailerWord bytes 4;
+      «to_contexts» = trailerWord bytes 5;
+      «to_lines» = trailerWord bytes 6;
       mark = trailerWord bytes 7;
     }
 
@@ -60,8 +61,8 @@ limitsFit t = leb (t .terms) 3072 && leb (t .contexts) 256 && leb (t .lines) 102
 -- number 3: the distances and the length agree with the counts
 unfoldable pub distancesFit : Trailer → ℕ → Bool
 distancesFit t n =
-    eqb (t .first) (toTerms (t .terms) (t .contexts) (t .lines)) && eqb (t .second) (toContexts (t .contexts) (t .lines))
-    && eqb (t .third) (toLines (t .lines)) && eqb n (toTerms (t .terms) (t .contexts) (t .lines) + 16)
+    eqb (t .«to_terms») (toTerms (t .terms) (t .contexts) (t .lines)) && eqb (t .«to_contexts») (toContexts (t .contexts) (t .lines))
+    && eqb (t .«to_lines») (toLines (t .lines)) && eqb n (toTerms (t .terms) (t .contexts) (t .lines) + 16)
 
 -- number 3
 unfoldable pub countsFit : Trailer → ℕ → Bool

@@ -2,7 +2,10 @@ pub mod Layout
 pub mod Lines
 pub mod Admission
 pub mod Finding
+pub mod GoodLayout
+pub mod GoodLines
 pub mod Good
+pub mod WorkBuffer
 pub mod Accepted
 pub mod Withdrawal
 pub mod Output

@@ -1,20 +1,22 @@
--- The lines and their check, numbers 9 and 10: document 01, "The sheet" and "What the desk says". A line is ten words: form, rule, context,
--- three subjects, four premises. Lines count from 0.
+-- The lines and their check, numbers 9 and 10: document 01, "The sheet" and "What the desk says". A line is ten words:
+-- form, rule, context, three subjects, four premises. Lines count from 0.
 use mathlib.Core.Bool.{Bool, true, false, _&&_}
 use mathlib.Core.List.{List, [], _∷_, map}
-use Prim.Native.Nat.{ℕ, zero, suc, _+_, _*_}
+use Prim.Native.Nat.{ℕ, _+_, _*_}
 use lib.Dec.{leb, ltb, eqb}
 use lib.ListN.{take}
 use Rattle.terms.specs.Words.{wordAt}
+use Rattle.terms.specs.Search.{Step, ends, goes, searchPlaces}
 use Rattle.rules.specs.Judgment.{Judgment}
-use Rattle.rules.specs.RuleTable.{formOf, premiseCount}
+use Rattle.rules.specs.RuleTable.{ruleKnown, formOf, premiseCount}
+use Rattle.rules.specs.Subjects.{usesSubject}
 use Rattle.rules.specs.Instance.{Instance}
 use Rattle.rules.specs.Decision.{instance?}
 use Rattle.rules.specs.Stated.{stated}
 use Rattle.rules.specs.declared.judgments.LineJudgment.{LineJudgment}
 use Rattle.sheets.specs.declared.lines.Line.{Line}
 use Rattle.sheets.specs.declared.lines.LinesAnswer.{LinesAnswer}
-use Rattle.sheets.specs.declared.lines.LinesAnswer.the-variants.{Sound, Faulty}
+use Rattle.sheets.specs.declared.lines.LinesAnswer.the-variants.{NoFault, Faulty}
 use Rattle.sheets.specs.Layout.{contextsIn, linesIn}
 
 -- word j of line n, where the bytes begin with line 0
@@ -53,12 +55,12 @@ unfoldable pub below : Bool → ℕ → ℕ
 below true bound = bound
 below false bound = 1
 
--- number 9, subjects: form 0 uses none, 1 uses s1 and s3, 2 uses all, 3 uses s1 and s2; used ones are terms
+-- number 9, subjects: those that the form uses are terms, the others are 0
 unfoldable pub subjectsFit : LineJudgment → ℕ → Bool
 unfolding below
 subjectsFit j terms =
-    ltb (j .s1) (below (leb 1 (j .form)) terms) && ltb (j .s2) (below (leb 2 (j .form)) terms)
-    && ltb (j .s3) (below (leb 1 (j .form) && leb (j .form) 2) terms)
+    ltb (j .s1) (below (usesSubject (j .form) 0) terms) && ltb (j .s2) (below (usesSubject (j .form) 1) terms)
+    && ltb (j .s3) (below (usesSubject (j .form) 2) terms)
 
 -- number 9, premises: the first count are used and are earlier lines than line n
 unfoldable pub premisesFit : Line → ℕ → ℕ → Bool
@@ -69,7 +71,7 @@ premisesFit l count n =
 
 -- number 9, rule and form: a rule that is there, and its form
 unfoldable pub ruleFits : Line → Bool
-ruleFits l = leb 1 (l .rule) && leb (l .rule) 43 && eqb (judgmentOf l .form) (formOf (l .rule))
+ruleFits l = ruleKnown (l .rule) && eqb (judgmentOf l .form) (formOf (l .rule))
 
 -- number 9, the numbers of line n, over the given numbers of terms and of contexts
 unfoldable pub numbersFit : Line → ℕ → ℕ → ℕ → Bool
@@ -94,15 +96,13 @@ module _ (bytes : List ℕ) (terms contexts : ℕ) where
   unfolding LineFollows instance?
   lineFollows? n = instance? (lineAt n .rule) (map statedAt (citedBy (lineAt n))) (statedAt n)
 
-  -- the check of the next lines, as many as the first argument says, from line n on: 9, then 10, at each
-  unfoldable pub checkLinesFrom : ℕ → ℕ → LinesAnswer
-  checkLinesFrom zero n = Sound
-  checkLinesFrom (suc more) n =
+  -- the check at line n: 9, then 10
+  unfoldable pub lineStep : ℕ → Step (Unit {0}) LinesAnswer
+  lineStep n =
       elim (lineFits (lineAt n) n terms contexts) [
-        | false ↦ Faulty 9 n
-        | true ↦
-            elim (lineFollows? n) [ no _ ↦ Faulty 10 n | yes _ ↦ checkLinesFrom more (suc n) ]
+        | false ↦ ends (Faulty 9 n)
+        | true ↦ elim (lineFollows? n) [ no _ ↦ ends (Faulty 10 n) | yes _ ↦ goes tt ]
       ]
 
   unfoldable pub checkLines : ℕ → LinesAnswer
-  checkLines count = checkLinesFrom count 0
+  checkLines count = searchPlaces lineStep NoFault count 0

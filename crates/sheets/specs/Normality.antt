@@ -31,8 +31,8 @@ normalityAfter bytes t (Accepted T C L) = afterTerm bytes T t
 unfoldable pub normalityOf : List ℕ → ℕ → ℕ → Normality
 normalityOf bytes t work = normalityAfter bytes t (admitOf bytes work)
 
--- What each answer means, for any sheet and work buffer; there is no other. Admission's refusals have numbers 1 to 10, so
--- no answer means two things.
+-- What each answer means, for any sheet and work buffer; there is no other. Admission's refusals have numbers 1 to 10,
+-- so no answer means two things.
 pub data NormalityMeans (bytes : List ℕ) (t work : ℕ) : Normality → Type 0 where
   faulty : {number place : ℕ} → FirstFault bytes work number place
       → NormalityMeans bytes t work (Refused number place)

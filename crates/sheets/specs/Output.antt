@@ -10,7 +10,7 @@ use Rattle.sheets.specs.declared.withdrawal.Withdrawal.{Withdrawal}
 use Rattle.sheets.specs.declared.withdrawal.Withdrawal.the-variants.{Written, Refused}
 use Rattle.sheets.specs.Layout.{linesIn, trailerOf}
 use Rattle.sheets.specs.Lines.{lineWord}
-use Rattle.sheets.specs.Good.{LaidOut}
+use Rattle.sheets.specs.GoodLayout.{LaidOut}
 use Rattle.sheets.specs.Withdrawal.{lowerPremise}
 
 -- line k of the new lines is line m of the old ones, as it stands once line n is away; words 6 to 9 are the premises

@@ -2,12 +2,13 @@
 use mathlib.Core.Path.{_≡_}
 use mathlib.Core.Bool.{Bool, true, false, _&&_, _||_}
 use mathlib.Core.List.{List, [], _∷_}
-use Prim.Native.Nat.{ℕ, zero, suc, _+_, _-_, _*_, _/_, _%_, _≤_, _<_}
+use Prim.Native.Nat.{ℕ, suc, _+_, _-_, _*_, _%_, _≤_, _<_}
 use lib.Dec.{leb, ltb, eqb}
 use lib.ListN.{length, getD, take}
-use Rattle.terms.specs.Words.{wordAt}
-use Rattle.terms.specs.Sizes.{over}
-use Rattle.rules.specs.RuleTable.{premiseCount}
+use Rattle.terms.specs.Words.{wordAt, bytesOf}
+use Rattle.terms.specs.Search.{firstAt}
+use Rattle.terms.specs.Buffers.{over}
+use Rattle.rules.specs.RuleTable.{IsRule, premiseCount}
 use Rattle.sheets.specs.declared.lines.Line.{Line}
 use Rattle.sheets.specs.declared.admission.Admission.{Admission}
 use Rattle.sheets.specs.declared.admission.Admission.the-variants.{Accepted, Refused as notAdmitted}
@@ -16,18 +17,8 @@ use Rattle.sheets.specs.declared.withdrawal.Withdrawal.the-variants.{Wri
 use Rattle.sheets.specs.Layout.{linesIn, trailerOf, toTerms}
 use Rattle.sheets.specs.Lines.{lineOf, premisesOf}
 use Rattle.sheets.specs.Admission.{admitOf}
-use Rattle.sheets.specs.Accepted.{IsAccepted, listed, statedBy}
-
--- the bytes of words of 16 bits, low byte first
-unfoldable pub bytesOf : List ℕ → List ℕ
-bytesOf [] = []
-bytesOf (w ∷ ws) = w % 256 ∷ w / 256 ∷ bytesOf ws
-
--- the list without element n
-unfoldable pub without : {A : Type 0} → ℕ → List A → List A
-without n [] = []
-without zero (x ∷ l) = l
-without (suc n) (x ∷ l) = x ∷ without n l
+use Rattle.terms.specs.Lists.{listed, without}
+use Rattle.sheets.specs.Accepted.{IsAccepted, statedBy}
 
 -- number 12: the line has n among the premises that its rule uses; the 0 of an unused premise is no use of line 0
 unfoldable pub uses : Line → ℕ → Bool
@@ -39,22 +30,13 @@ uses l n =
 abbrev pub Uses : Line → ℕ → Type 0
 Uses l n = (j : ℕ) × (j < 4) × (j < premiseCount (l .rule)) × (getD (premisesOf l) j 0 ≡ n)
 
--- the rule is one of the 43
-abbrev pub KnownRule : Line → Type 0
-KnownRule l = (1 ≤ l .rule) × (l .rule ≤ 43)
-
+-- the rules of the first count lines are there
 abbrev pub KnownRules : List ℕ → ℕ → Type 0
-KnownRules lines count = (k : ℕ) → k < count → KnownRule (lineOf lines k)
-
--- the search of the next lines, as many as the first argument says, from line k on, for one that uses line n; the number behind them if
--- none does
-unfoldable pub firstUseFrom : ℕ → List ℕ → ℕ → ℕ → ℕ
-firstUseFrom zero lines n k = k
-firstUseFrom (suc more) lines n k = elim (uses (lineOf lines k) n) [ true ↦ k | false ↦ firstUseFrom more lines n (suc k) ]
+KnownRules lines count = (k : ℕ) → k < count → IsRule (lineOf lines k .rule)
 
 -- the lowest line behind line n, of the first count, that uses it; count if none does
 unfoldable pub firstUse : List ℕ → ℕ → ℕ → ℕ
-firstUse lines count n = firstUseFrom (count - suc n) lines n (suc n)
+firstUse lines count n = firstAt (λ k. uses (lineOf lines k) n) (λ k. k) count (count - suc n) (suc n)
 
 -- the length of a sheet of T terms, C contexts and L lines without one of the lines
 unfoldable pub newLength : ℕ → ℕ → ℕ → ℕ
@@ -145,14 +127,14 @@ abbrev pub Unused : List ℕ → ℕ → ℕ → Type 0
 Unused lines L n = (k : ℕ) → n < k → k < L → Uses (lineOf lines k) n → ⊥
 
 -- what each answer of withdrawal means for an accepted sheet with these counts; there is no other
-pub data WithdrawalMeans (bytes : List ℕ) (T C L n room : ℕ) : Withdrawal → Type 0 where
-  missing : L ≤ n → WithdrawalMeans bytes T C L n room (Refused 11 n)
-  used : {p : ℕ} → n < L → LowestUse (linesIn bytes T C) L n p → WithdrawalMeans bytes T C L n room (Refused 12 p)
-  short : n < L → Unused (linesIn bytes T C) L n → room < newLength T C L → WithdrawalMeans bytes T C L n room (Refused 13 0)
-  written : n < L → Unused (linesIn bytes T C) L n → newLength T C L ≤ room → WithdrawalMeans bytes T C L n room (Written (newLength T C L))
+pub data AdmittedWithdrawalMeans (bytes : List ℕ) (T C L n room : ℕ) : Withdrawal → Type 0 where
+  missing : L ≤ n → AdmittedWithdrawalMeans bytes T C L n room (Refused 11 n)
+  used : {p : ℕ} → n < L → LowestUse (linesIn bytes T C) L n p → AdmittedWithdrawalMeans bytes T C L n room (Refused 12 p)
+  short : n < L → Unused (linesIn bytes T C) L n → room < newLength T C L → AdmittedWithdrawalMeans bytes T C L n room (Refused 13 0)
+  written : n < L → Unused (linesIn bytes T C) L n → newLength T C L ≤ room → AdmittedWithdrawalMeans bytes T C L n room (Written (newLength T C L))
 
--- Demand 3 (c), of an answer and the output afterwards: if a length is answered, the old sheet and the new one, the output up to that
--- length, are accepted, and the new one states the old judgments in order, that one missing.
-unfoldable pub Withdrawn : List ℕ → ℕ → List ℕ → Withdrawal → Type 0
-Withdrawn old n after (Refused _ _) = Unit {0}
-Withdrawn old n after (Written new) = IsAccepted old × IsAccepted (take new after) × (statedBy (take new after) ≡ without n (statedBy old))
+-- Demand 3 (c), of an answer and the output afterwards: if a length is answered, the old sheet and the new one, the
+-- output up to that length, are accepted, and the new one states the old judgments in order, that one missing.
+unfoldable pub KeepsTheOthers : List ℕ → ℕ → List ℕ → Withdrawal → Type 0
+KeepsTheOthers old n after (Refused _ _) = Unit {0}
+KeepsTheOthers old n after (Written new) = IsAccepted old × IsAccepted (take new after) × (statedBy (take new after) ≡ without n (statedBy old))

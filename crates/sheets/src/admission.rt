@@ -11,12 +11,14 @@ ghost use mathlib.Core.Path.{_≡_};
 ghost use Prim.Native.Nat.{_≤_};
 ghost use lib.ListN.{length};
 ghost use Rattle.terms.specs.Table.{TermTable};
-ghost use Rattle.terms.specs.Sizes.{checkTerms, over};
+ghost use Rattle.terms.specs.Sizes.{checkTerms};
+ghost use Rattle.terms.specs.Buffers.{over};
 ghost use Rattle.rules.specs.Contexts.{checkContexts};
 ghost use Rattle.sheets.specs.Layout.{contextsIn};
 ghost use Rattle.sheets.specs.Lines.{checkLines};
 ghost use Rattle.sheets.specs.Admission.{afterLines, afterContexts, afterTerms, admitOf, workAfter};
-ghost use Rattle.sheets.specs.Good.{LaidOut, Tabled};
+ghost use Rattle.sheets.specs.Good.{WellFormedTables};
+ghost use Rattle.sheets.specs.GoodLayout.{LaidOut};
 
 // What admission answers: the counts, or the number of the first fault and its place.
 pub enum Admission {
@@ -33,12 +35,12 @@ pub enum Admission {
 
 // The lines, once the tables are right.
 fn admit_lines(sheet: &[u8], terms: usize, contexts: usize, lines: usize) -> Admission
-    requires { ⌜ Tabled (now sheet) terms contexts lines ⌝ }
+    requires { ⌜ WellFormedTables (now sheet) terms contexts lines ⌝ }
     ensures { λ r. ⌜ r ≡ afterLines terms contexts lines (checkLines (now (sheet .entry)) terms contexts lines) ⌝ }
 {
     match check_lines(sheet, terms, contexts, lines) {
         LinesAnswer::Faulty { number, place } => Admission::Refused { number, place },
-        LinesAnswer::Sound => Admission::Accepted {
+        LinesAnswer::NoFault => Admission::Accepted {
             terms,
             contexts,
             lines,
@@ -54,7 +56,7 @@ fn admit_contexts(sheet: &[u8], terms: usize, contexts: usize, lines: usize) -> 
     let start = 10 * terms;
     match check_contexts(&sheet[start..], terms, contexts) {
         ContextsAnswer::Faulty { place } => Admission::Refused { number: 8, place },
-        ContextsAnswer::Sound => admit_lines(sheet, terms, contexts, lines),
+        ContextsAnswer::NoFault => admit_lines(sheet, terms, contexts, lines),
     }
 }
 
@@ -72,7 +74,7 @@ fn admit_tables(
 {
     match check_terms(sheet, terms, work) {
         TermsAnswer::Faulty { number, place } => Admission::Refused { number, place },
-        TermsAnswer::Sound => admit_contexts(sheet, terms, contexts, lines),
+        TermsAnswer::NoFault => admit_contexts(sheet, terms, contexts, lines),
     }
 }
 

@@ -6,15 +6,16 @@ ghost use Prim.Native.Nat.{_≤_};
 ghost use lib.ListN.{length};
 ghost use Rattle.sheets.specs.Layout.{trailerOf, markFits, limitsFit, distancesFit, countsFit, trailerAnswer, layoutOf};
 
-// The eight words of a trailer. The three distances go back from its first byte to the terms, the contexts and the lines.
+// The eight words of a trailer. The three distances go back from its first byte to the terms, the contexts and the
+// lines.
 pub struct Trailer {
     pub terms: usize,
     pub contexts: usize,
     pub lines: usize,
     pub edition: usize,
-    pub first: usize,
-    pub second: usize,
-    pub third: usize,
+    pub to_terms: usize,
+    pub to_contexts: usize,
+    pub to_lines: usize,
     pub mark: usize,
 }
 
@@ -42,9 +43,9 @@ fn read_trailer(sheet: &[u8]) -> Trailer
         contexts: word_at(words, 1),
         lines: word_at(words, 2),
         edition: word_at(words, 3),
-        first: word_at(words, 4),
-        second: word_at(words, 5),
-        third: word_at(words, 6),
+        to_terms: word_at(words, 4),
+        to_contexts: word_at(words, 5),
+        to_lines: word_at(words, 6),
         mark: word_at(words, 7),
     }
 }
@@ -71,7 +72,10 @@ fn distances_fit(t: Trailer, n: usize) -> bool
     let lines = 20 * t.lines;
     let contexts = 4 * t.contexts;
     let terms = 10 * t.terms + contexts + lines;
-    (t.first == terms) & (t.second == contexts + lines) & (t.third == lines) & (n == terms + 16)
+    (t.to_terms == terms)
+        & (t.to_contexts == contexts + lines)
+        & (t.to_lines == lines)
+        & (n == terms + 16)
 }
 
 // Number 3, for a sheet of `n` bytes.

@@ -1,7 +1,9 @@
 // Lines: ten words each.
 use rules::instances::is_instance;
 use rules::judgments::LineJudgment;
+use rules::judgments::subject_use;
 use rules::table::conclusion_form;
+use rules::table::is_rule;
 use rules::table::premise_count;
 use terms::words::word_at;
 ghost use mathlib.Core.Path.{_≡_};
@@ -10,7 +12,8 @@ ghost use lib.ListN.{length};
 ghost use Rattle.terms.specs.Decides.{Decides};
 ghost use Rattle.rules.specs.RuleTable.{formOf, premiseCount};
 ghost use Rattle.sheets.specs.Lines.{lineWord, lineOf, judgmentOf, below, subjectsFit, premisesFit, ruleFits, numbersFit, lineFits, lineAt, LineFollows, checkLines};
-ghost use Rattle.sheets.specs.Good.{LineOk, Tabled, Reached};
+ghost use Rattle.sheets.specs.Good.{WellFormedTables, GoodBefore};
+ghost use Rattle.sheets.specs.GoodLines.{LineOk};
 
 // The words of a line.
 pub struct Line {
@@ -28,7 +31,7 @@ pub struct Line {
 
 // What the check of the lines finds: every line is right, or the first fault and its line.
 pub enum LinesAnswer {
-    Sound,
+    NoFault,
     Faulty { number: usize, place: usize },
 }
 
@@ -83,10 +86,8 @@ fn bound(used: bool, n: usize) -> usize
 fn subjects_fit(j: LineJudgment, terms: usize) -> bool
     ensures { λ r. ⌜ r ≡ subjectsFit j terms ⌝ }
 {
-    let form = j.form;
-    (j.s1 < bound(1 <= form, terms))
-        & (j.s2 < bound(2 <= form, terms))
-        & (j.s3 < bound((1 <= form) & (form <= 2), terms))
+    let used = subject_use(j.form);
+    (j.s1 < bound(used.s1, terms)) & (j.s2 < bound(used.s2, terms)) & (j.s3 < bound(used.s3, terms))
 }
 
 // Number 9, the premises of line `n`, of which the first `count` are used.
@@ -104,8 +105,7 @@ fn rule_fits(line: Line, form: usize) -> bool
     requires { ⌜ form ≡ formOf (line .rule) ⌝ }
     ensures { λ r. ⌜ r ≡ ruleFits line ⌝ }
 {
-    let rule = line.rule;
-    (1 <= rule) & (rule <= 43) & (judgment_of(line).form == form)
+    is_rule(line.rule) & (judgment_of(line).form == form)
 }
 
 // Number 9, the numbers of line `n`, whose rule has `count` premises.
@@ -132,23 +132,32 @@ fn line_fits(line: Line, n: usize, terms: usize, contexts: usize) -> bool
 
 // Number 10 at line `n`. An unused premise word is 0, and line 0 is there; what it states is not looked at.
 fn line_follows(sheet: &[u8], terms: usize, contexts: usize, line: Line, n: usize) -> bool
-    requires { ⌜ Reached (now sheet) terms contexts n × (line ≡ lineAt (now sheet) terms contexts n) × LineOk line n terms contexts ⌝ }
+    requires { ⌜ GoodBefore (now sheet) terms contexts n × (line ≡ lineAt (now sheet) terms contexts n) × LineOk line n terms contexts ⌝ }
     ensures { λ r. ⌜ Decides r (LineFollows (now (sheet .entry)) terms contexts n) ⌝ }
 {
     let after_terms = 10 * terms;
     let after_contexts = 10 * terms + 4 * contexts;
-    let rows = &sheet[after_terms..];
+    let context_rows = &sheet[after_terms..];
     let lines = &sheet[after_contexts..];
     let p = judgment_of(read_line(lines, line.p0));
     let q = judgment_of(read_line(lines, line.p1));
     let r = judgment_of(read_line(lines, line.p2));
     let s = judgment_of(read_line(lines, line.p3));
-    is_instance(sheet, rows, line.rule, judgment_of(line), p, q, r, s)
+    is_instance(
+        sheet,
+        context_rows,
+        line.rule,
+        judgment_of(line),
+        p,
+        q,
+        r,
+        s,
+    )
 }
 
 // Checks the first `count` lines in order: 9, then 10, at each.
 pub fn check_lines(sheet: &[u8], terms: usize, contexts: usize, count: usize) -> LinesAnswer
-    requires { ⌜ Tabled (now sheet) terms contexts count ⌝ }
+    requires { ⌜ WellFormedTables (now sheet) terms contexts count ⌝ }
     ensures { λ r. ⌜ r ≡ checkLines (now (sheet .entry)) terms contexts count ⌝ }
 {
     let start = 10 * terms + 4 * contexts;
@@ -172,5 +181,5 @@ pub fn check_lines(sheet: &[u8], terms: usize, contexts: usize, count: usize) ->
             };
         }
     }
-    LinesAnswer::Sound
+    LinesAnswer::NoFault
 }

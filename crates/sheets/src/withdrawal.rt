@@ -8,11 +8,13 @@ use terms::words::word_at;
 ghost use mathlib.Core.Path.{_≡_};
 ghost use Prim.Native.Nat.{_+_, _-_, _*_, _<_, _≤_};
 ghost use lib.ListN.{length};
-ghost use Rattle.terms.specs.Sizes.{over};
+ghost use Rattle.terms.specs.Words.{bytesOf};
+ghost use Rattle.terms.specs.Buffers.{over};
 ghost use Rattle.sheets.specs.Admission.{workAfter};
-ghost use Rattle.sheets.specs.Accepted.{listed};
+ghost use Rattle.terms.specs.Lists.{listed};
 ghost use Rattle.sheets.specs.Good.{Good};
-ghost use Rattle.sheets.specs.Withdrawal.{bytesOf, KnownRule, KnownRules, uses, firstUse, afterLine, withdrawOf, lowered as loweredWord, trailerLoses, oldPlace, newWord, outFrom, outAfter, Withdrawn};
+ghost use Rattle.rules.specs.RuleTable.{IsRule};
+ghost use Rattle.sheets.specs.Withdrawal.{KnownRules, uses, firstUse, afterLine, withdrawOf, lowered as loweredWord, trailerLoses, oldPlace, newWord, outFrom, outAfter, KeepsTheOthers};
 
 // What withdrawal answers: the new sheet's length, or the number of a refusal and its place.
 pub enum Withdrawal {
@@ -32,7 +34,7 @@ fn trailer_loses(i: usize) -> usize
 
 // Number 12: is `n` among the premises that the line's rule uses?
 fn uses_line(line: Line, n: usize) -> bool
-    requires { ⌜ KnownRule line ⌝ }
+    requires { ⌜ IsRule (line .rule) ⌝ }
     ensures { λ r. ⌜ r ≡ uses line n ⌝ }
 {
     let count = premise_count(line.rule);
@@ -168,7 +170,7 @@ pub fn withdraw(sheet: &[u8], line: usize, work: &mut [u32], out: &mut [u8]) -> 
     ensures answer { λ r. ⌜ r ≡ withdrawOf (now (sheet .entry)) line (length (now (work .entry))) (length (now (out .entry))) ⌝ }
     ensures left { λ _. ⌜ now (work .exit) ≡ workAfter (now (sheet .entry)) (now (work .entry)) ⌝ }
     ensures written { λ _. ⌜ now (out .exit) ≡ outAfter (now (sheet .entry)) line (length (now (work .entry))) (now (out .entry)) ⌝ }
-    ensures kept { λ r. ⌜ Withdrawn (now (sheet .entry)) line (now (out .exit)) r ⌝ }
+    ensures kept { λ r. ⌜ KeepsTheOthers (now (sheet .entry)) line (now (out .exit)) r ⌝ }
 {
     match admit(sheet, work) {
         Admission::Refused { number, place } => Withdrawal::Refused { number, place },

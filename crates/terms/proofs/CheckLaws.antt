@@ -3,20 +3,23 @@
 use mathlib.Core.Path.{_≡_, refl, sym, _∙_, ap, subst}
 use mathlib.Core.Bool.{Bool, true, false}
 use mathlib.Core.List.{List, [], _∷_, _++_}
-use Prim.Native.Nat.{ℕ, suc, _+_, _-_, _≤_, _<_}
+use Prim.Native.Nat.{ℕ, _+_, _≤_, _<_}
 use native.Mathlib.Numerals.{add-one}
 use native.Mathlib.Omega.{arith}
 use lib.ListN.{length, take, drop, set, length-set, take-append-drop}
 use lib.Seq.{take-suc-set, drop-set-lt, drop-drop, length-take-le}
 use borrow.Author.Tests.{lt-ltb, le-ltb}
 use Rattle.terms.specs.Decides.{Decides}
-use Rattle.terms.specs.Sizes.{rowOf, fitsRow, repeatedBelow, rowSize, sizeAnswer, rowAnswer, checkFrom, checkTerms, over}
+use Rattle.terms.specs.Sizes.{fitsRow, repeatedBelow, rowSize, sizeAnswer, rowAnswer, checked, rowStep, checkTerms}
+use Rattle.terms.specs.Rows.{rowOf}
+use Rattle.terms.specs.Buffers.{over}
 use Rattle.terms.specs.Repetition.{OlderRowHolds}
 use Rattle.terms.specs.declared.rows.Row.{Row}
 use Rattle.terms.specs.declared.sizes.RowAnswer.the-variants.{Fault, Size}
 use Rattle.terms.specs.declared.sizes.TermsAnswer.{TermsAnswer}
-use Rattle.terms.specs.declared.sizes.TermsAnswer.the-variants.{Sound, Faulty}
+use Rattle.terms.specs.declared.sizes.TermsAnswer.the-variants.{NoFault, Faulty}
 use Rattle.terms.proofs.Tests.{decides-same}
+use Rattle.terms.proofs.SearchLaws.{Ahead, ahead-start, ahead-end, ahead-ends, ahead-goes}
 use Rattle.terms.proofs.RepetitionLaws.{repeated-any}
 
 -- `row_answer`: r is the row, f says whether it fits
@@ -53,52 +56,42 @@ module _ (bytes : List ℕ) (n : ℕ) (sizes : List ℕ) (r : Row) (f : Bool) (e
       answer-size o = subst (λ s. Size size ≡ sizeAnswer s) m (rw (le-ltb 65535 size o, sizeAnswer)) ∙ answer-sized l
 
 -- `check_terms`: before row k the first k words of the buffer are the sizes so far, the rest is as it was,
--- and the check of the remaining rows answers for the whole
+-- and the check of the rows ahead answers for the whole
 module _ (bytes : List ℕ) (count : ℕ) (before : List ℕ) where
-  pub record Reached (work : List ℕ) (k : ℕ) : Type 0 where
-    pub within : k ≤ count
+  pub record Checking (work : List ℕ) (k : ℕ) : Type 0 where
+    pub ahead : Ahead (rowStep bytes) (checked NoFault) count (checkTerms bytes count) k (take k work)
     pub long : length work ≡ length before
     pub rest : drop k work ≡ drop k before
-    pub future : checkFrom (count - k) bytes k (take k work) ≡ checkTerms bytes count
 
-  pub reached-start : Reached before 0
+  pub checking-start : Checking before 0
   unfolding checkTerms
-  reached-start = record { within = omega arith; long = refl; rest = refl; future = ap (λ m. checkFrom m bytes 0 []) (omega arith) }
+  checking-start = record { ahead = ahead-start count (omega arith) refl; long = refl; rest = refl }
 
-  module _ (room : count ≤ length before) (work : List ℕ) (k : ℕ) (at : Reached work k) where
+  module _ (room : count ≤ length before) (work : List ℕ) (k : ℕ) (at : Checking work k) where
     written : work ≡ over (take k work) before
-    written = sym (ap (λ m. take k work ++ drop m before) (length-take-le k work (omega (arith, at .within, at .long))) ∙ ap (λ l. take k work ++ l) (sym (at .rest)) ∙ take-append-drop k work)
+    written = sym (ap (λ m. take k work ++ drop m before) (length-take-le k work (omega (arith, at .ahead .within, at .long))) ∙ ap (λ l. take k work ++ l) (sym (at .rest)) ∙ take-append-drop k work)
 
-    -- the check of the remaining rows ends at once with these answers
-    ended : (a : TermsAnswer) → checkFrom (count - k) bytes k (take k work) ≡ record { answer = a; sizes = take k work }
+    ended : (a : TermsAnswer) → checked a (take k work) ≡ checkTerms bytes count
         → (a ≡ checkTerms bytes count .answer) × (work ≡ over (checkTerms bytes count .sizes) before)
-    ended a e =
-        let all = sym e ∙ at .future in
-        (ap (λ r. r .answer) all, written ∙ ap (λ r. over (r .sizes) before) all)
+    ended a e = (ap (λ r. r .answer) e, written ∙ ap (λ r. over (r .sizes) before) e)
 
-    pub reached-end : count ≤ k → (Sound ≡ checkTerms bytes count .answer) × (work ≡ over (checkTerms bytes count .sizes) before)
-    unfolding checkFrom
-    reached-end h = ended Sound (ap (λ m. checkFrom m bytes k (take k work)) none)
-      where
-        none : count - k ≡ 0
-        none = omega arith
+    pub checking-end : count ≤ k → (NoFault ≡ checkTerms bytes count .answer) × (work ≡ over (checkTerms bytes count .sizes) before)
+    checking-end h = ended NoFault (ahead-end (at .ahead) h)
 
     module _ (h : k < count) where
-      more : count - k ≡ suc (count - (k + 1))
-      more = omega arith
+      pub checking-fault : (number : ℕ) → Fault number ≡ rowAnswer bytes k (take k work) → (Faulty number k ≡ checkTerms bytes count .answer) × (work ≡ over (checkTerms bytes count .sizes) before)
+      unfolding rowStep
+      checking-fault number e = ended (Faulty number k) (ahead-ends (at .ahead) h (rw (← e, rowStep)))
 
-      pub reached-fault : (number : ℕ) → Fault number ≡ rowAnswer bytes k (take k work) → (Faulty number k ≡ checkTerms bytes count .answer) × (work ≡ over (checkTerms bytes count .sizes) before)
-      unfolding checkFrom
-      reached-fault number e = ended (Faulty number k) (rw (more, ← e, checkFrom))
-
-      pub reached-next : (size : ℕ) → Size size ≡ rowAnswer bytes k (take k work) → Reached (set work k size) (k + 1)
-      unfolding checkFrom
-      reached-next size e =
+      pub checking-next : (size : ℕ) → Size size ≡ rowAnswer bytes k (take k work) → Checking (set work k size) (k + 1)
+      unfolding rowStep
+      checking-next size e =
           record {
-            within = omega arith;
+            ahead =
+                subst (Ahead (rowStep bytes) (checked NoFault) count (checkTerms bytes count) (k + 1)) (sym taken)
+                (ahead-goes (at .ahead) h (rw (← e, rowStep)));
             long = length-set work k size ∙ at .long;
             rest = drop-set-lt (k + 1) work k size (omega arith) ∙ sym (drop-drop 1 k work) ∙ ap (drop 1) (at .rest) ∙ drop-drop 1 k before;
-            future = ap (checkFrom (count - (k + 1)) bytes (k + 1)) taken ∙ sym (rw (more, ← e, ← (add-one k), checkFrom)) ∙ at .future;
           }
         where
           taken : take (k + 1) (set work k size) ≡ take k work ++ size ∷ []

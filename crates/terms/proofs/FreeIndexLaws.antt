@@ -11,10 +11,10 @@ use Rattle.terms.specs.Substitution.{shift, substitute, instantiate, _�
 use Rattle.terms.specs.FreeIndices.{FreeBelow}
 use Rattle.terms.specs.Tag.{Tag, Var, under, binders, shape}
 use Rattle.terms.proofs.Shape.{under-is, shift-shape, substitute-shape, free-shape, by-shape}
-use Rattle.terms.proofs.SubstitutionLaws.{at-cutoff, raise-bound, raise-free, put-bound, put-free}
+use Rattle.terms.proofs.SubstitutionLaws.{at-cutoff, raise-bound, raise-free, image-bound, image-free}
 
--- F goes to a term's children, k counting the binders crossed; R k n m relates the bounds n before F and m after it, and
--- is kept when binders are crossed. Then a law on bounds that holds at variables holds at every term.
+-- F goes to a term's children, k counting the binders crossed; R k n m relates the bounds n before F and m after it,
+-- and is kept when binders are crossed. Then a law on bounds that holds at variables holds at every term.
 module _ (F : ℕ → Term → Term)
     (at-children : (τ : Tag) (n : ℕ) (x : ℕ → Term) (k : ℕ) → τ ≢ Var → F k (shape τ n x) ≡ shape τ n (λ j. F (under (binders τ j) k) (x j)))
     (R : ℕ → ℕ → ℕ → Type 0)
@@ -51,8 +51,8 @@ unfolding FreeBelow substitute
 free-substitute k n m σ t h = free-after (λ k. substitute k σ) (λ τ l x k. substitute-shape τ l x k σ) (λ k n' m'. (n' ≤ k + n) × (k + m ≤ m'))
     (λ b k n' m' r. omega (arith, under-is b k, under-is b n', under-is b m'))
     (λ i k n' m' r low. at-cutoff _ k i
-    (λ b. subst (FreeBelow m') (sym (put-bound k σ i b)) (omega arith))
-    (λ f. subst (FreeBelow m') (sym (put-free k σ i f)) (free-more (m + k) m' (shift 0 k (σ (i - k))) (omega arith) (free-shift 0 m k (σ (i - k)) (h (i - k) (omega arith))))))
+    (λ b. subst (FreeBelow m') (sym (image-bound k σ i b)) (omega arith))
+    (λ f. subst (FreeBelow m') (sym (image-free k σ i f)) (free-more (m + k) m' (shift 0 k (σ (i - k))) (omega arith) (free-shift 0 m k (σ (i - k)) (h (i - k) (omega arith))))))
     t k (k + n) (k + m) (omega arith)
 
 pub free-substitute₀ : (n m : ℕ) (σ : ℕ → Term) (t : Term) → ((i : ℕ) → i < n → FreeBelow m (σ i)) → FreeBelow n t → FreeBelow m (substitute 0 σ t)
@@ -81,7 +81,7 @@ unfolding FreeBelow substitute
 free-instantiate-back k n a t = free-before (λ k. substitute k (instantiate a)) (λ τ l x k. substitute-shape τ l x k (instantiate a)) (λ k n m. (k < n) × (m < n))
     (λ b k n m r. omega (arith, under-is b k, under-is b n, under-is b m))
     (λ i k n m r f. at-cutoff _ k i (λ b. omega arith)
-    (λ h. instantiate-back k n m a (i - k) i (r .0) (r .1) (omega arith) (subst (FreeBelow m) (put-free k (instantiate a) i h) f)))
+    (λ h. instantiate-back k n m a (i - k) i (r .0) (r .1) (omega arith) (subst (FreeBelow m) (image-free k (instantiate a) i h) f)))
     t k (k + suc n) (k + n) (omega arith)
 
 pub free-instantiate-back₀ : (n : ℕ) (a t : Term) → FreeBelow n (t ⟨ a ⟩) → FreeBelow (suc n) t

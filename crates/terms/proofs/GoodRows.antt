@@ -11,9 +11,9 @@ use lib.Dec.{leb, ltb}
 use lib.ListN.{getD}
 use borrow.Author.Tests.{leb-true, ltb-true, le-leb, lt-ltb, lt-leb}
 use Rattle.terms.specs.Tag.{tagOf, used}
-use Rattle.terms.specs.Rows.{word, tag}
+use Rattle.terms.specs.Rows.{word, tag, rowOf}
 use Rattle.terms.specs.Table.{GoodRow, limit}
-use Rattle.terms.specs.Sizes.{rowOf, fitsRow}
+use Rattle.terms.specs.Sizes.{fitsRow}
 use Rattle.terms.specs.declared.rows.Row.{Row}
 use Rattle.terms.proofs.Tables.{and-left, and-right}
 use Rattle.terms.proofs.Shape.{AtChildren, each}

@@ -9,10 +9,10 @@ use Rattle.terms.specs.Term.{Term, var, first, succ, ind}
 use Rattle.terms.proofs.SubstitutionLaws.{raise-free}
 use Rattle.terms.specs.Substitution.{shift, instantiate, outerSucc, instantiateBoth}
 use Rattle.terms.specs.Tag.{child}
-use Rattle.terms.specs.Table.{AllBelow}
-use Rattle.terms.specs.Images.{putting, putRows, imageTerm, imageRows, imageNumber, loweredOf, imageOf}
-use Rattle.terms.specs.declared.images.Put.{Put}
-use Rattle.terms.specs.declared.images.Put.the-variants as put
+use Rattle.terms.specs.Lists.{AllBelow}
+use Rattle.terms.specs.Images.{substitution, substRows, imageTerm, imageRows, imageNumber, loweredOf, imageOf}
+use Rattle.terms.specs.declared.images.Subst.{Subst}
+use Rattle.terms.specs.declared.images.Subst.the-variants as by
 use Rattle.terms.specs.declared.images.Image.{Image}
 use Rattle.terms.specs.declared.images.Image.the-variants as image
 
@@ -20,11 +20,11 @@ pub lowered-far : (nearest : Image) (i : ℕ) → (i ≡ 0 → ⊥) → image.Va
 lowered-far nearest zero h = absurd (h refl)
 lowered-far nearest (suc i) h = ap image.Var (omega arith)
 
-pub raised-far : (i : ℕ) → (i ≡ 0 → ⊥) → image.Var (i + 1) ≡ imageOf put.OuterSucc i
+pub raised-far : (i : ℕ) → (i ≡ 0 → ⊥) → image.Var (i + 1) ≡ imageOf by.OuterSucc i
 raised-far zero h = absurd (h refl)
 raised-far (suc i) h = ap image.Var (omega arith)
 
-pub twice-far : (p a b c i : ℕ) (r : Image) → (i ≡ 0 → ⊥) → r ≡ loweredOf (image.Row a) (i - 1) → r ≡ imageOf (put.Both p a b c) i
+pub twice-far : (p a b c i : ℕ) (r : Image) → (i ≡ 0 → ⊥) → r ≡ loweredOf (image.Row a) (i - 1) → r ≡ imageOf (by.Both p a b c) i
 twice-far p a b c zero r h e = absurd (h refl)
 twice-far p a b c (suc i) r h e = let back : suc i - 1 ≡ i = omega arith in e ∙ ap (loweredOf (image.Row a)) back
 
@@ -34,48 +34,48 @@ unfolding instantiate
 lowered-means bytes nearest zero = refl
 lowered-means bytes nearest (suc i) = refl
 
-both-means : (bytes : List ℕ) (p a b c i : ℕ) → imageTerm bytes (loweredOf (image.Row a) i) ≡ putting bytes (put.Both p a b c) (suc i)
+both-means : (bytes : List ℕ) (p a b c i : ℕ) → imageTerm bytes (loweredOf (image.Row a) i) ≡ substitution bytes (by.Both p a b c) (suc i)
 unfolding instantiateBoth
 both-means bytes p a b c zero = refl
 both-means bytes p a b c (suc i) = refl
 
 -- the image is what the substitution puts
-pub image-means : (bytes : List ℕ) (p : Put) (i : ℕ) → imageTerm bytes (imageOf p i) ≡ putting bytes p i
+pub image-means : (bytes : List ℕ) (p : Subst) (i : ℕ) → imageTerm bytes (imageOf p i) ≡ substitution bytes p i
 unfolding outerSucc instantiateBoth
-image-means bytes (put.Row a) i = lowered-means bytes (image.Row a) i
-image-means bytes put.Zero i = lowered-means bytes image.Zero i
-image-means bytes (put.First a) i = lowered-means bytes (image.First a) i
-image-means bytes put.OuterSucc zero = refl
-image-means bytes put.OuterSucc (suc i) = refl
-image-means bytes (put.Both p a b c) zero = refl
-image-means bytes (put.Both p a b c) (suc i) = both-means bytes p a b c i
+image-means bytes (by.Row a) i = lowered-means bytes (image.Row a) i
+image-means bytes by.Zero i = lowered-means bytes image.Zero i
+image-means bytes (by.First a) i = lowered-means bytes (image.First a) i
+image-means bytes by.OuterSucc zero = refl
+image-means bytes by.OuterSucc (suc i) = refl
+image-means bytes (by.Both p a b c) zero = refl
+image-means bytes (by.Both p a b c) (suc i) = both-means bytes p a b c i
 
 lowered-small : (nearest : Image) (i : ℕ) → imageNumber nearest ≡ 0 → imageNumber (loweredOf nearest i) ≤ i
 lowered-small nearest zero h = omega arith
 lowered-small nearest (suc i) h = omega arith
 
-pub image-small : (p : Put) (i : ℕ) → imageNumber (imageOf p i) ≤ i + 1
-image-small (put.Row a) i = omega (arith, lowered-small (image.Row a) i refl)
-image-small put.Zero i = omega (arith, lowered-small image.Zero i refl)
-image-small (put.First a) i = omega (arith, lowered-small (image.First a) i refl)
-image-small put.OuterSucc zero = omega arith
-image-small put.OuterSucc (suc i) = omega arith
-image-small (put.Both p a b c) zero = omega arith
-image-small (put.Both p a b c) (suc i) = omega (arith, lowered-small (image.Row a) i refl)
+pub image-small : (p : Subst) (i : ℕ) → imageNumber (imageOf p i) ≤ i + 1
+image-small (by.Row a) i = omega (arith, lowered-small (image.Row a) i refl)
+image-small by.Zero i = omega (arith, lowered-small image.Zero i refl)
+image-small (by.First a) i = omega (arith, lowered-small (image.First a) i refl)
+image-small by.OuterSucc zero = omega arith
+image-small by.OuterSucc (suc i) = omega arith
+image-small (by.Both p a b c) zero = omega arith
+image-small (by.Both p a b c) (suc i) = omega (arith, lowered-small (image.Row a) i refl)
 
 lowered-rows : (nearest : Image) (count i : ℕ) → AllBelow count (imageRows nearest) → AllBelow count (imageRows (loweredOf nearest i))
 lowered-rows nearest count zero h = h
 lowered-rows nearest count (suc i) h = tt
 
 -- the rows that an image names are among those that are put
-pub image-rows : (p : Put) (i count : ℕ) → AllBelow count (putRows p) → AllBelow count (imageRows (imageOf p i))
-image-rows (put.Row a) i count h = lowered-rows (image.Row a) count i h
-image-rows put.Zero i count h = lowered-rows image.Zero count i tt
-image-rows (put.First a) i count h = lowered-rows (image.First a) count i h
-image-rows put.OuterSucc zero count h = tt
-image-rows put.OuterSucc (suc i) count h = tt
-image-rows (put.Both p a b c) zero count h = h
-image-rows (put.Both p a b c) (suc i) count h = lowered-rows (image.Row a) count i (h .1 .0, tt)
+pub image-rows : (p : Subst) (i count : ℕ) → AllBelow count (substRows p) → AllBelow count (imageRows (imageOf p i))
+image-rows (by.Row a) i count h = lowered-rows (image.Row a) count i h
+image-rows by.Zero i count h = lowered-rows image.Zero count i tt
+image-rows (by.First a) i count h = lowered-rows (image.First a) count i h
+image-rows by.OuterSucc zero count h = tt
+image-rows by.OuterSucc (suc i) count h = tt
+image-rows (by.Both p a b c) zero count h = h
+image-rows (by.Both p a b c) (suc i) count h = lowered-rows (image.Row a) count i (h .1 .0, tt)
 
 -- a term is a constructor's exactly if its own children make it one and are the parts
 pub first-parts : (t v x : Term) → v ≡ child t 1 → ((t ≡ first v) × (v ≡ x)) ↔ (t ≡ first x)

@@ -11,7 +11,8 @@ use lib.ListN.{getD, set, replicate, length-set, length-replicate, getD-replicat
 use lib.Seq.{getD-set-same, getD-set-other}
 use borrow.Author.Tests.{eq-eqb, ne-eqb}
 use Rattle.terms.specs.Decides.{Decides}
-use Rattle.terms.specs.Sizes.{rowOf, holdsRow, repeatedBelow}
+use Rattle.terms.specs.Sizes.{repeatedBelow}
+use Rattle.terms.specs.Rows.{rowOf, holdsRow}
 use Rattle.terms.specs.Repetition.{OlderRowHolds}
 use Rattle.terms.specs.RowIndex.{bucketOf, latest, Indexed}
 use Rattle.terms.specs.declared.rows.Row.{Row}

@@ -2,6 +2,7 @@ pub mod Tables
 pub mod Shape
 pub mod TagTables
 pub mod Tests
+pub mod SearchLaws
 pub mod RowLaws
 pub mod GoodRows
 pub mod CheckLaws
@@ -11,7 +12,7 @@ pub mod RepetitionLaws
 pub mod TableLaws
 pub mod VisitLaws
 pub mod WalkLaws
-pub mod HeldLaws
+pub mod MemoLaws
 pub mod ImageLaws
 pub mod NormalLaws
 pub mod RecognitionLaws

@@ -12,9 +12,9 @@ use borrow.Author.Tests.{eqb-true, eq-eqb}
 use Rattle.terms.specs.Term.{var}
 use Rattle.terms.specs.Decides.{Decides}
 use Rattle.terms.specs.Tag.{Var, Univ, tagOf, arity, used, shape, tagIn, numberIn, child}
-use Rattle.terms.specs.Rows.{word, tag, term}
-use Rattle.terms.specs.Table.{TermTable, Given, AllBelow}
-use Rattle.terms.specs.Sizes.{holdsRow}
+use Rattle.terms.specs.Rows.{word, tag, term, holdsRow}
+use Rattle.terms.specs.Table.{TermTable, RowsInTable}
+use Rattle.terms.specs.Lists.{AllBelow}
 use Rattle.terms.specs.Nodes.{nodeTerm, nodeChildren, nodeRow, SameHead}
 use Rattle.terms.specs.declared.rows.Row.{Row}
 use Rattle.terms.specs.declared.nodes.Node.{Node}
@@ -95,7 +95,7 @@ node-spelled bytes (node.Succ a) = refl
 node-spelled bytes (node.Ind p a b c) = refl
 
 -- `is_node`
-pub node-decided : (bytes : List ℕ) (n : ℕ) (m : Node) → Given bytes (n ∷ nodeChildren m) → (row : Row) (r : Bool) → row ≡ nodeRow m → r ≡ holdsRow bytes n row → Decides r (term bytes n ≡ nodeTerm bytes m)
+pub node-decided : (bytes : List ℕ) (n : ℕ) (m : Node) → RowsInTable bytes (n ∷ nodeChildren m) → (row : Row) (r : Bool) → row ≡ nodeRow m → r ≡ holdsRow bytes n row → Decides r (term bytes n ≡ nodeTerm bytes m)
 node-decided bytes n m g row r e f =
     let spells = holds-spells bytes (g .count) (g .table) n (g .below .0) (rowWord (nodeRow m)) (described (g .count) m (g .below .1)) in
     let words = holds-words bytes n (nodeRow m) in
@@ -158,7 +158,7 @@ module _ (bytes : List ℕ) (count : ℕ) (table : TermTable bytes count) (n : �
       other m k e = omega arith
 
 -- `same_head`
-pub heads-decided : (bytes : List ℕ) (t u : ℕ) → Given bytes (t ∷ u ∷ []) → (v w m n : ℕ)
+pub heads-decided : (bytes : List ℕ) (t u : ℕ) → RowsInTable bytes (t ∷ u ∷ []) → (v w m n : ℕ)
     → v ≡ word bytes t 0 → w ≡ word bytes u 0 → m ≡ numberIn (term bytes t) → n ≡ numberIn (term bytes u)
     → Decides (eqb v w && eqb m n) (SameHead (term bytes t) (term bytes u))
 heads-decided bytes t u g v w m n e f k l = (

@@ -42,7 +42,7 @@ use Rattle.terms.specs.NormalForms.{
 }
 use Rattle.terms.specs.Recognition.{headsNeutral, scrutinised}
 use Rattle.terms.proofs.Shape.{each, AtChildren}
-use Rattle.terms.proofs.Tests.{says-yes, says-no, decides-via, decides-both}
+use Rattle.terms.proofs.Tests.{says-yes, says-no, decides-via, _&_}
 
 neutral-head : {t : Term} → Neutral t → headsNeutral (tagIn t) ≡ true
 unfolding headsNeutral tagIn
@@ -177,28 +177,27 @@ zero-not-normal h = zero-not-neutral (normal-neutral refl h)
 both-decided : (t : Term) (r s : Bool) → 2 ≤ arity (tagIn t) → (Normal (child t 1) → Normal (child t 2) → Normal t)
     → Decides r (Normal (child t 1)) → Decides s (Normal (child t 2)) → Decides (r && s) (Normal t)
 both-decided t r s two make d e =
-    decides-via (r && s) (
+    decides-via (
       λ p. make (p .0) (p .1),
       λ h. (normal-parts h 1 (omega arith) (omega arith), normal-parts h 2 (omega arith) (omega arith)),
-    )
-    (decides-both r s d e)
+    ) (d & e)
 
 -- and for what scrutinises
 app-decided : {a b : Term} (r s : Bool) → Decides r (Neutral a) → Decides s (Normal b)
     → Decides (r && s) (Neutral (app a b))
-app-decided {a} {b} r s d e = decides-via (r && s) (λ p. n-app (p .0) (p .1), parts) (decides-both r s d e)
+app-decided {a} {b} r s d e = decides-via (λ p. n-app (p .0) (p .1), parts) (d & e)
   where
     parts : Neutral (app a b) → Neutral a × Normal b
     parts (n-app h k) = (h, k)
 
 proj1-decided : {a : Term} (r : Bool) → Decides r (Neutral a) → Decides r (Neutral (first a))
-proj1-decided {a} r d = decides-via r (n-proj1, part) d
+proj1-decided {a} r d = decides-via (n-proj1, part) d
   where
     part : Neutral (first a) → Neutral a
     part (n-proj1 h) = h
 
 proj2-decided : {a : Term} (r : Bool) → Decides r (Neutral a) → Decides r (Neutral (second a))
-proj2-decided {a} r d = decides-via r (n-proj2, part) d
+proj2-decided {a} r d = decides-via (n-proj2, part) d
   where
     part : Neutral (second a) → Neutral a
     part (n-proj2 h) = h
@@ -207,14 +206,13 @@ ind-decided : {P a b c : Term} (r s u v : Bool)
     → Decides r (Normal P) → Decides s (Neutral a) → Decides u (Normal b) → Decides v (Normal c)
     → Decides (r && s && u && v) (Neutral (ind P a b c))
 ind-decided {P} {a} {b} {c} r s u v d e f g =
-    decides-via (r && s && u && v) (λ p. n-ind (p .0 .0 .0) (p .0 .0 .1) (p .0 .1) (p .1), parts)
-    (decides-both (r && s && u) v (decides-both (r && s) u (decides-both r s d e) f) g)
+    decides-via (λ p. n-ind (p .0 .0 .0) (p .0 .0 .1) (p .0 .1) (p .1), parts) (d & e & f & g)
   where
     parts : Neutral (ind P a b c) → ((Normal P × Neutral a) × Normal b) × Normal c
     parts (n-ind h k l m) = (((h, k), l), m)
 
 pub by-neutral : {t : Term} → headsNeutral (tagIn t) ≡ true → (r : Bool) → Decides r (Neutral t) → Decides r (Normal t)
-by-neutral e r d = decides-via r (n-sne, normal-neutral e) d
+by-neutral e r d = decides-via (n-sne, normal-neutral e) d
 
 -- the computed tests tell normal and neutral terms
 mutual
@@ -224,7 +222,7 @@ mutual
   normal-decided (var x) = says-yes (n-sne (n-var x))
   normal-decided (univ i) = says-yes (n-univ i)
   normal-decided (pi A B) = both-decided (pi A B) _ _ (omega arith) n-pi (normal-decided A) (normal-decided B)
-  normal-decided (lam b) = decides-via _ (n-abs, λ h. normal-parts h 1 (omega arith) (omega arith)) (normal-decided b)
+  normal-decided (lam b) = decides-via (n-abs, λ h. normal-parts h 1 (omega arith) (omega arith)) (normal-decided b)
   normal-decided (app a b) = by-neutral refl _ (app-decided _ _ (neutral-decided a) (normal-decided b))
   normal-decided (sigma A B) = both-decided (sigma A B) _ _ (omega arith) n-sig (normal-decided A) (normal-decided B)
   normal-decided (pair a b) = both-decided (pair a b) _ _ (omega arith) n-pair (normal-decided a) (normal-decided b)
@@ -232,7 +230,7 @@ mutual
   normal-decided (second a) = by-neutral refl _ (proj2-decided _ (neutral-decided a))
   normal-decided nat = says-yes n-nat
   normal-decided zer = says-yes n-zero
-  normal-decided (succ a) = decides-via _ (n-succ, λ h. normal-parts h 1 (omega arith) (omega arith)) (normal-decided a)
+  normal-decided (succ a) = decides-via (n-succ, λ h. normal-parts h 1 (omega arith) (omega arith)) (normal-decided a)
   normal-decided (ind P a b c) =
       by-neutral refl _
       (ind-decided _ _ _ _ (normal-decided P) (neutral-decided a) (normal-decided b) (normal-decided c))

@@ -14,12 +14,12 @@ use lib.Seq.{getD-set-other}
 use Rattle.terms.specs.Term.{Term}
 use Rattle.terms.specs.Tag.{Tag, tagOf, tagIn}
 use Rattle.terms.specs.Rows.{word, term}
-use Rattle.terms.specs.Table.{Given}
+use Rattle.terms.specs.Table.{RowsInTable}
 use Rattle.terms.specs.NormalForms.{Normal, Neutral}
 use Rattle.terms.specs.Recognition.{headsNeutral, scrutinised, Known}
 use Rattle.terms.proofs.Shape.{each-tag}
 use Rattle.terms.proofs.NodeLaws.{row-whole}
-use Rattle.terms.proofs.HeldLaws.{all-zero}
+use Rattle.terms.proofs.MemoLaws.{all-zero}
 use Rattle.terms.proofs.VisitLaws.{tag-read}
 use Rattle.terms.proofs.NormalLaws.{Asked, Part}
 
@@ -64,12 +64,12 @@ known-more bytes known t k h = record { fact = λ n e. at n e (ℕ-discrete n t)
     at n e (no f) = k .fact n (sym (getD-set-other known t n 1 0 f) ∙ e)
 
 -- the test of a row's tag, as it was read
-pub head-read : {bytes : List ℕ} {t v : ℕ} {r b : Bool} → Given bytes (t ∷ []) → v ≡ word bytes t 0
+pub head-read : {bytes : List ℕ} {t v : ℕ} {r b : Bool} → RowsInTable bytes (t ∷ []) → v ≡ word bytes t 0
     → r ≡ headsNeutral (tagOf v) → r ≡ b → headsNeutral (tagIn (term bytes t)) ≡ b
 head-read g e f h = ap headsNeutral (sym (tag-read g e)) ∙ sym f ∙ h
 
 -- the row is whole, and has a place in the memory
-module _ {bytes : List ℕ} {t : ℕ} (g : Given bytes (t ∷ [])) where
+module _ {bytes : List ℕ} {t : ℕ} (g : RowsInTable bytes (t ∷ [])) where
   pub given-whole : 10 * t + 10 ≤ length bytes
   given-whole = row-whole bytes (g .count) t (g .table) (g .below .0)
 

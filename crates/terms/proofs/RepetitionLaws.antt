@@ -2,13 +2,14 @@
 -- Assumes nothing.
 use mathlib.Core.Path.{_≡_, sym, _∙_, ap}
 use mathlib.Core.Logic.{_↔_, _⊎_, inl, inr, ⊎-elim, Iff·trans}
-use mathlib.Core.Bool.{true, _||_}
+use mathlib.Core.Bool.{true}
 use mathlib.Core.List.{List}
 use Prim.Native.Nat.{ℕ, zero, suc}
 use native.Mathlib.Omega.{arith}
 use Rattle.terms.specs.Decides.{Decides}
 use Rattle.terms.specs.Table.{SameRow}
-use Rattle.terms.specs.Sizes.{rowOf, holdsRow, repeatedBelow}
+use Rattle.terms.specs.Sizes.{repeatedBelow}
+use Rattle.terms.specs.Rows.{rowOf, holdsRow}
 use Rattle.terms.specs.Repetition.{OlderRowHolds}
 use Rattle.terms.specs.declared.rows.Row.{Row}
 use Rattle.terms.proofs.Tests.{says-no, decides-via, decides-either}
@@ -44,5 +45,4 @@ module _ (bytes : List ℕ) where
     unfolding repeatedBelow
     repeated-any zero = says-no (λ h. absurd (omega (arith, h .1)))
     repeated-any (suc n) =
-        decides-via (repeatedBelow bytes r n || holdsRow bytes n r) (one-more n)
-        (decides-either (repeatedBelow bytes r n) (holdsRow bytes n r) (repeated-any n) (holds-row n r))
+        decides-via (one-more n) (decides-either (repeated-any n) (holds-row n r))

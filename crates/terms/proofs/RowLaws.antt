@@ -11,9 +11,9 @@ use lib.ListN.{length, getD}
 use borrow.Author.Tests.{eq-eqb, ne-eqb, le-leb, lt-leb}
 use Rattle.terms.specs.Tag.{Var, Univ, tagOf, arity, used}
 use Rattle.terms.specs.Words.{wordAt}
-use Rattle.terms.specs.Rows.{word, tag}
+use Rattle.terms.specs.Rows.{word, tag, rowOf, holdsRow}
 use Rattle.terms.specs.Table.{limit, usedLimit}
-use Rattle.terms.specs.Sizes.{rowOf, fitsRow, holdsRow, sumTo, rowSize}
+use Rattle.terms.specs.Sizes.{fitsRow, sumTo, rowSize}
 use Rattle.terms.specs.declared.rows.Row.{Row}
 use Rattle.terms.proofs.Shape.{tagNumber}
 use Rattle.terms.proofs.GoodRows.{rowWord, fits-child}

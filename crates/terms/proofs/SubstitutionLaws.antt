@@ -1,5 +1,5 @@
--- Laws of raising and replacing free indices: what becomes of a variable below the cutoff k and from it on, when raising
--- changes nothing, raising as a substitution, and substitutions that agree at each index.
+-- Laws of raising and replacing free indices: what becomes of a variable below the cutoff k and from it on, when
+-- raising changes nothing, raising as a substitution, and substitutions that agree at each index.
 -- Assumes nothing.
 use mathlib.Core.Path.{_≡_, refl, sym, _∙_, ap, fun-ext}
 use mathlib.Core.Bool.{Bool, true, false}
@@ -8,7 +8,7 @@ use native.Mathlib.Omega.{arith}
 use lib.Dec.{ltb}
 use borrow.Author.Tests.{ltb-true, ltb-false, lt-ltb, le-ltb}
 use Rattle.terms.specs.Term.{Term, var}
-use Rattle.terms.specs.Substitution.{raise, shift, putFor, substitute, raiseBy}
+use Rattle.terms.specs.Substitution.{raise, shift, imageUnder, substitute, raiseBy}
 use Rattle.terms.proofs.Shape.{shape-cong, shift-shape, substitute-shape, by-shape}
 
 -- under k binders an index is bound or free: what follows in both cases holds
@@ -29,13 +29,13 @@ unfolding raise
 raise-free k d i h = rw (le-ltb, raise)
 
 -- what a substitution puts for an index
-pub put-bound : (k : ℕ) (σ : ℕ → Term) (i : ℕ) → i < k → putFor k σ i ≡ var i
-unfolding putFor
-put-bound k σ i h = rw (lt-ltb, putFor)
+pub image-bound : (k : ℕ) (σ : ℕ → Term) (i : ℕ) → i < k → imageUnder k σ i ≡ var i
+unfolding imageUnder
+image-bound k σ i h = rw (lt-ltb, imageUnder)
 
-pub put-free : (k : ℕ) (σ : ℕ → Term) (i : ℕ) → k ≤ i → putFor k σ i ≡ shift 0 k (σ (i - k))
-unfolding putFor
-put-free k σ i h = rw (le-ltb, putFor)
+pub image-free : (k : ℕ) (σ : ℕ → Term) (i : ℕ) → k ≤ i → imageUnder k σ i ≡ shift 0 k (σ (i - k))
+unfolding imageUnder
+image-free k σ i h = rw (le-ltb, imageUnder)
 
 pub shift-zero : (k : ℕ) (t : Term) → shift k 0 t ≡ t
 unfolding shift
@@ -48,9 +48,9 @@ pub shift-as-substitution : (k d : ℕ) (t : Term) → shift k d t ≡ substitut
 unfolding shift substitute raiseBy
 shift-as-substitution k d t = by-shape (λ t. (k : ℕ) → shift k d t ≡ substitute k (raiseBy d) t)
     (λ i k. at-cutoff _ k i
-    (λ h. ap var (raise-bound k d i h) ∙ sym (put-bound k (raiseBy d) i h))
+    (λ h. ap var (raise-bound k d i h) ∙ sym (image-bound k (raiseBy d) i h))
     (λ h. let e : raise k d i ≡ raise 0 k (i - k + d) = omega (arith, raise-free k d i h, raise-free 0 k (i - k + d) zero-le) in
-    ap var e ∙ sym (put-free k (raiseBy d) i h)))
+    ap var e ∙ sym (image-free k (raiseBy d) i h)))
     (λ τ n x h _ at k. shift-shape τ n x k d h ∙ shape-cong τ n _ _ (λ j low high. at j low high _) ∙ sym (substitute-shape τ n x k _ h))
     t k
 

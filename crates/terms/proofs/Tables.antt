@@ -1,4 +1,5 @@
--- A constant table's rule, proved once over the whole table: the table is computed from the rule, or every entry is tested.
+-- A constant table's rule, proved once over the whole table: the table is computed from the rule, or every entry is
+-- tested.
 -- Assumes nothing.
 use mathlib.Core.Path.{_≡_, refl, _∙_, ap}
 use mathlib.Core.Bool.{Bool, true, false, _&&_, false≢true}

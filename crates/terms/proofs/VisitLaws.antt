@@ -8,14 +8,14 @@ use borrow.Author.Count.{below-more}
 use Rattle.terms.specs.Term.{Term}
 use Rattle.terms.specs.Tag.{tagOf, arity, tagIn, child}
 use Rattle.terms.specs.Rows.{word, term}
-use Rattle.terms.specs.Table.{Given}
+use Rattle.terms.specs.Table.{RowsInTable}
 use Rattle.terms.proofs.Shape.{AtChildren}
 use Rattle.terms.proofs.TagTables.{arity-most}
 use Rattle.terms.proofs.TermLaws.{row-described}
 use Rattle.terms.proofs.NodeLaws.{row-tag, child-is, child-before}
 
 -- a row and its tag as it was read
-module _ {bytes : List ℕ} {t v : ℕ} (g : Given bytes (t ∷ [])) (e : v ≡ word bytes t 0) where
+module _ {bytes : List ℕ} {t v : ℕ} (g : RowsInTable bytes (t ∷ [])) (e : v ≡ word bytes t 0) where
   pub tag-read : tagOf v ≡ tagIn (term bytes t)
   tag-read = ap tagOf e ∙ sym (row-tag bytes (g .count) (g .table) t (g .below .0))
 
@@ -28,7 +28,7 @@ AllParts bytes t P = AtChildren (tagIn (term bytes t)) (λ i. P i (child (term b
 
 -- the children of row t are visited in turn: those before place j are as P asks; v is the row's tag and m its arity
 pub record Visit (bytes : List ℕ) (t : ℕ) (P : ℕ → Term → Type 0) (v m j : ℕ) : Type 0 where
-  pub given : Given bytes (t ∷ [])
+  pub given : RowsInTable bytes (t ∷ [])
   pub isTag : v ≡ word bytes t 0
   pub isArity : m ≡ arity (tagOf v)
   pub from : 1 ≤ j
@@ -36,7 +36,7 @@ pub record Visit (bytes : List ℕ) (t : ℕ) (P : ℕ → Term → Type 0) (v m
   pub passed : (i : ℕ) → i < j → 1 ≤ i → P i (term bytes (word bytes t i))
 
 pub visit-start : (bytes : List ℕ) (t : ℕ) (P : ℕ → Term → Type 0) (v m : ℕ)
-    → Given bytes (t ∷ []) → v ≡ word bytes t 0 → m ≡ arity (tagOf v) → Visit bytes t P v m 1
+    → RowsInTable bytes (t ∷ []) → v ≡ word bytes t 0 → m ≡ arity (tagOf v) → Visit bytes t P v m 1
 visit-start bytes t P v m g e a =
     record {
       given = g;
@@ -68,7 +68,7 @@ module _ {bytes : List ℕ} {t : ℕ} {P : ℕ → Term → Type 0} {v m j : ℕ
   -- x is the child at the place that is visited
   pub record Visited (x : ℕ) : Type 0 where
     pub below : x < t
-    pub given : Given bytes (x ∷ [])
+    pub given : RowsInTable bytes (x ∷ [])
     pub next : P j (term bytes x) → Visit bytes t P v m (j + 1)
     pub part : AllParts bytes t P → P j (term bytes x)
 

@@ -12,10 +12,10 @@ use Rattle.terms.specs.Substitution.{shift, substitute}
 use Rattle.terms.specs.Decides.{Decides}
 use Rattle.terms.specs.Tag.{Tag, Var, tagOf, arity, binders, under, shape, tagIn, numberIn, child}
 use Rattle.terms.specs.Rows.{word, term}
-use Rattle.terms.specs.Table.{Given}
+use Rattle.terms.specs.Table.{RowsInTable}
 use Rattle.terms.specs.Nodes.{SameHead}
 use Rattle.terms.proofs.Shape.{AtChildren, under-is, shape-cong, shape-view, child-shape, tagIn-shape, tagIn-known, number-any, shift-shape, substitute-shape, tagNumber}
-use Rattle.terms.proofs.Tests.{says-yes, says-no, given-of}
+use Rattle.terms.proofs.Tests.{says-yes, says-no, other-rows}
 use Rattle.terms.proofs.TagTables.{tag-is}
 use Rattle.terms.proofs.TermLaws.{row-described}
 use Rattle.terms.proofs.NodeLaws.{row-tag, child-is, child-before}
@@ -64,24 +64,24 @@ module _ (bytes : List ℕ) (rest : List ℕ) (F : ℕ → Term → Term) (U : U
 
   -- the walk has passed the places before j; v is the tag of row t and m its arity
   pub record Walk (v m j : ℕ) : Type 0 where
-    pub given : Given bytes (t ∷ u ∷ rest)
+    pub given : RowsInTable bytes (t ∷ u ∷ rest)
     pub notVar : v ≡ 1 → ⊥
     pub heads : SameHead (term bytes t) (term bytes u)
     pub visit : Visit bytes t (ImageAt v) v m j
 
-  no-variable : (v : ℕ) → Given bytes (t ∷ u ∷ rest) → v ≡ word bytes t 0 → (v ≡ 1 → ⊥) → tagIn (term bytes t) ≢ Var
+  no-variable : (v : ℕ) → RowsInTable bytes (t ∷ u ∷ rest) → v ≡ word bytes t 0 → (v ≡ 1 → ⊥) → tagIn (term bytes t) ≢ Var
   unfolding tagNumber
   no-variable v g e h f =
       let d = row-described bytes (g .count) (g .table) t (g .below .0) in
       h (e ∙ tag-is Var (word bytes t 0) (d .high) (sym (row-tag bytes (g .count) (g .table) t (g .below .0)) ∙ f))
 
-  pub heads-differ : (v : ℕ) → Given bytes (t ∷ u ∷ rest) → v ≡ word bytes t 0 → (v ≡ 1 → ⊥) → (s : Bool) → Decides s (SameHead (term bytes t) (term bytes u)) → s ≡ false
+  pub heads-differ : (v : ℕ) → RowsInTable bytes (t ∷ u ∷ rest) → v ≡ word bytes t 0 → (v ≡ 1 → ⊥) → (s : Bool) → Decides s (SameHead (term bytes t) (term bytes u)) → s ≡ false
       → Decides false (term bytes u ≡ F k (term bytes t))
   heads-differ v g e h s d f = says-no (λ i. false≢true (sym f ∙ d .1 (image-heads F U k (term bytes t) (term bytes u) (no-variable v g e h) i)))
 
-  pub walk-start : (v m : ℕ) → Given bytes (t ∷ u ∷ rest) → v ≡ word bytes t 0 → (v ≡ 1 → ⊥) → (s : Bool) → Decides s (SameHead (term bytes t) (term bytes u)) → s ≡ true → m ≡ arity (tagOf v) → Walk v m 1
+  pub walk-start : (v m : ℕ) → RowsInTable bytes (t ∷ u ∷ rest) → v ≡ word bytes t 0 → (v ≡ 1 → ⊥) → (s : Bool) → Decides s (SameHead (term bytes t) (term bytes u)) → s ≡ true → m ≡ arity (tagOf v) → Walk v m 1
   walk-start v m g e h s d f a =
-      let alone = given-of bytes (t ∷ u ∷ rest) (t ∷ []) (λ n b. (b .0, tt)) g in
+      let alone : RowsInTable bytes (t ∷ []) = other-rows (λ n b. (b .0, tt)) g in
       record { given = g; notVar = h; heads = d .0 f; visit = visit-start bytes t (ImageAt v) v m alone e a }
 
   module _ (v m j : ℕ) (w : Walk v m j) where
@@ -121,7 +121,7 @@ module _ (bytes : List ℕ) (rest : List ℕ) (F : ℕ → Term → Term) (U : U
         let there = child-before bytes (w .given .count) (w .given .table) u (w .given .below .1 .0) j (w .visit .from) used in
         (visit-child (w .visit) h e .below, omega arith)
 
-    pub walk-given : (x y : ℕ) → j ≤ m → x ≡ word bytes t j → y ≡ word bytes u j → Given bytes (x ∷ y ∷ rest)
+    pub walk-given : (x y : ℕ) → j ≤ m → x ≡ word bytes t j → y ≡ word bytes u j → RowsInTable bytes (x ∷ y ∷ rest)
     walk-given x y h e f =
         let b = child-below x y h e f in
         record { count = w .given .count; few = w .given .few; table = w .given .table; below = (omega (arith, w .given .below .0), (omega (arith, w .given .below .1 .0), w .given .below .1 .1)) }

@@ -1,30 +1,30 @@
--- What is put for free indices, described by rows: document 01, "Amended readings" (B[a], P[succ x], E-INDSUC).
--- What is put need have no row: zero, first a, succ x and ind P a b c are described by the rows of their parts.
+-- The substitutions that rules make, described by rows: document 01, "Amended readings" (B[a], P[succ x], E-INDSUC).
+-- What one brings in need have no row: zero, first a, succ x and ind P a b c are described by the rows of their parts.
 use mathlib.Core.List.{List, [], _∷_}
 use Prim.Native.Nat.{ℕ, zero, suc}
 use Rattle.terms.specs.Term.{Term, var, first, zer, succ, ind}
 use Rattle.terms.specs.Substitution.{instantiate, outerSucc, instantiateBoth}
 use Rattle.terms.specs.Rows.{term}
-use Rattle.terms.specs.declared.images.Put.{Put}
-use Rattle.terms.specs.declared.images.Put.the-variants as put
+use Rattle.terms.specs.declared.images.Subst.{Subst}
+use Rattle.terms.specs.declared.images.Subst.the-variants as by
 use Rattle.terms.specs.declared.images.Image.{Image}
 use Rattle.terms.specs.declared.images.Image.the-variants as image
 
 -- the substitution that a description means
-abbrev pub putting : List ℕ → Put → ℕ → Term
-putting bytes (put.Row a) = instantiate (term bytes a)
-putting bytes put.Zero = instantiate zer
-putting bytes (put.First a) = instantiate (first (term bytes a))
-putting bytes put.OuterSucc = outerSucc
-putting bytes (put.Both p a b c) = instantiateBoth (term bytes a) (ind (term bytes p) (term bytes a) (term bytes b) (term bytes c))
+abbrev pub substitution : List ℕ → Subst → ℕ → Term
+substitution bytes (by.Row a) = instantiate (term bytes a)
+substitution bytes by.Zero = instantiate zer
+substitution bytes (by.First a) = instantiate (first (term bytes a))
+substitution bytes by.OuterSucc = outerSucc
+substitution bytes (by.Both p a b c) = instantiateBoth (term bytes a) (ind (term bytes p) (term bytes a) (term bytes b) (term bytes c))
 
 -- the rows that it names
-abbrev pub putRows : Put → List ℕ
-putRows (put.Row a) = a ∷ []
-putRows put.Zero = []
-putRows (put.First a) = a ∷ []
-putRows put.OuterSucc = []
-putRows (put.Both p a b c) = p ∷ a ∷ b ∷ c ∷ []
+abbrev pub substRows : Subst → List ℕ
+substRows (by.Row a) = a ∷ []
+substRows by.Zero = []
+substRows (by.First a) = a ∷ []
+substRows by.OuterSucc = []
+substRows (by.Both p a b c) = p ∷ a ∷ b ∷ c ∷ []
 
 -- the term that an image means
 abbrev pub imageTerm : List ℕ → Image → Term
@@ -57,12 +57,12 @@ abbrev pub loweredOf : Image → ℕ → Image
 loweredOf nearest zero = nearest
 loweredOf nearest (suc i) = image.Var i
 
--- what is put for the index i
-abbrev pub imageOf : Put → ℕ → Image
-imageOf (put.Row a) i = loweredOf (image.Row a) i
-imageOf put.Zero i = loweredOf image.Zero i
-imageOf (put.First a) i = loweredOf (image.First a) i
-imageOf put.OuterSucc zero = image.SuccVar 1
-imageOf put.OuterSucc (suc i) = image.Var (suc (suc i))
-imageOf (put.Both p a b c) zero = image.Ind p a b c
-imageOf (put.Both p a b c) (suc i) = loweredOf (image.Row a) i
+-- the image of the index i
+abbrev pub imageOf : Subst → ℕ → Image
+imageOf (by.Row a) i = loweredOf (image.Row a) i
+imageOf by.Zero i = loweredOf image.Zero i
+imageOf (by.First a) i = loweredOf (image.First a) i
+imageOf by.OuterSucc zero = image.SuccVar 1
+imageOf by.OuterSucc (suc i) = image.Var (suc (suc i))
+imageOf (by.Both p a b c) zero = image.Ind p a b c
+imageOf (by.Both p a b c) (suc i) = loweredOf (image.Row a) i

@@ -7,11 +7,14 @@ pub mod Tag
 pub mod Decides
 pub mod Words
 pub mod Rows
+pub mod Lists
+pub mod Buffers
 pub mod Table
+pub mod Search
 pub mod Sizes
 pub mod Repetition
 pub mod RowIndex
 pub mod Nodes
-pub mod Held
+pub mod Memo
 pub mod Images
 pub mod Recognition

@@ -25,8 +25,8 @@ mutual
     n-proj2 : {a : Term} → Neutral a → Neutral (second a)
     n-ind : {P a b c : Term} → Normal P → Neutral a → Normal b → Normal c → Neutral (ind P a b c)
 
--- The same by computation. What a normal term of a tag that a neutral one can have asks is what N-SNE asks, written out:
--- a call at the term itself would be no recursion.
+-- The same by computation. What a normal term of a tag that a neutral one can have asks is what N-SNE asks, written
+-- out: a call at the term itself would be no recursion.
 unfoldable mutual
   pub isNormal : Term → Bool
   isNormal (var x) = true

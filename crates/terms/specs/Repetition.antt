@@ -2,7 +2,7 @@
 use mathlib.Core.Path.{_≡_}
 use mathlib.Core.List.{List}
 use Prim.Native.Nat.{ℕ, _<_}
-use Rattle.terms.specs.Sizes.{rowOf}
+use Rattle.terms.specs.Rows.{rowOf}
 use Rattle.terms.specs.declared.rows.Row.{Row}
 
 -- one of the first n rows holds these five words

@@ -1,12 +1,13 @@
--- An index of the rows checked so far, by which the check finds repetition (number 6) without comparing every two rows. Only functions
--- inside this crate speak of it: what the check answers is said by `repeatedBelow`, whatever the buckets are.
+-- An index of the rows checked so far, by which the check finds repetition (number 6) without comparing every two rows.
+-- Only functions inside this crate speak of it: what the check answers is said by `repeatedBelow`, whatever the buckets
+-- are.
 use mathlib.Core.Path.{_≡_}
 use mathlib.Core.Bool.{true, false}
 use mathlib.Core.List.{List}
 use Prim.Native.Nat.{ℕ, zero, suc, _+_, _*_, _/_, _%_, _<_}
 use lib.Dec.{eqb}
 use lib.ListN.{length, getD}
-use Rattle.terms.specs.Sizes.{rowOf}
+use Rattle.terms.specs.Rows.{rowOf}
 use Rattle.terms.specs.declared.rows.Row.{Row}
 
 -- the bucket of five words, one of 2,048

@@ -2,31 +2,23 @@
 use mathlib.Core.Bool.{Bool, true, false, _&&_, _||_}
 use mathlib.Core.List.{List, [], _∷_, _++_}
 use Prim.Native.Nat.{ℕ, zero, suc, _+_}
-use lib.Dec.{leb, ltb, eqb}
-use lib.ListN.{length, getD, drop}
+use lib.Dec.{leb, ltb}
+use lib.ListN.{getD}
 use Rattle.terms.specs.Tag.{tagOf, arity}
-use Rattle.terms.specs.Rows.{word, tag}
+use Rattle.terms.specs.Rows.{word, tag, rowOf, holdsRow}
 use Rattle.terms.specs.Table.{limit}
+use Rattle.terms.specs.Search.{Step, ends, goes, searchFrom}
 use Rattle.terms.specs.declared.rows.Row.{Row}
 use Rattle.terms.specs.declared.sizes.RowAnswer.{RowAnswer}
 use Rattle.terms.specs.declared.sizes.RowAnswer.the-variants.{Fault, Size}
 use Rattle.terms.specs.declared.sizes.TermsAnswer.{TermsAnswer}
-use Rattle.terms.specs.declared.sizes.TermsAnswer.the-variants.{Sound, Faulty}
-
--- the five words of row n
-unfoldable pub rowOf : List ℕ → ℕ → Row
-rowOf bytes n = record { tag = word bytes n 0; a = word bytes n 1; b = word bytes n 2; c = word bytes n 3; d = word bytes n 4 }
+use Rattle.terms.specs.declared.sizes.TermsAnswer.the-variants.{NoFault, Faulty}
 
 -- number 5: these words keep tag, operands and ranges as row n
 unfoldable pub fitsRow : Row → ℕ → Bool
 fitsRow r n =
     leb 1 (r .tag) && leb (r .tag) 13 && ltb (r .a) (limit (tagOf (r .tag)) n 1) && ltb (r .b) (limit (tagOf (r .tag)) n 2)
     && ltb (r .c) (limit (tagOf (r .tag)) n 3) && ltb (r .d) (limit (tagOf (r .tag)) n 4)
-
--- row n holds these words
-unfoldable pub holdsRow : List ℕ → ℕ → Row → Bool
-holdsRow bytes n r =
-    eqb (word bytes n 1) (r .a) && (eqb (word bytes n 0) (r .tag) && eqb (word bytes n 2) (r .b) && eqb (word bytes n 3) (r .c) && eqb (word bytes n 4) (r .d))
 
 -- number 6: one of the first n rows holds these words
 unfoldable pub repeatedBelow : List ℕ → Row → ℕ → Bool
@@ -56,15 +48,13 @@ pub record Checked : Type 0 where
   pub answer : TermsAnswer
   pub sizes : List ℕ
 
--- the check of the next rows, as many as the first argument says, from row n on
-unfoldable pub checkFrom : ℕ → List ℕ → ℕ → List ℕ → Checked
-checkFrom zero bytes n sizes = record { answer = Sound; sizes = sizes }
-checkFrom (suc more) bytes n sizes =
-    elim (rowAnswer bytes n sizes) [ Fault number ↦ record { answer = Faulty number n; sizes = sizes } | Size size ↦ checkFrom more bytes (suc n) (sizes ++ size ∷ []) ]
+abbrev pub checked : TermsAnswer → List ℕ → Checked
+checked answer sizes = record { answer = answer; sizes = sizes }
+
+-- the check at row n: it ends with the row's fault, or goes on with its size
+unfoldable pub rowStep : List ℕ → ℕ → List ℕ → Step (List ℕ) Checked
+rowStep bytes n sizes =
+    elim (rowAnswer bytes n sizes) [ Fault number ↦ ends (checked (Faulty number n) sizes) | Size size ↦ goes (sizes ++ size ∷ []) ]
 
 unfoldable pub checkTerms : List ℕ → ℕ → Checked
-checkTerms bytes count = checkFrom count bytes 0 []
-
--- a buffer whose first words are overwritten
-abbrev pub over : List ℕ → List ℕ → List ℕ
-over xs buffer = xs ++ drop (length xs) buffer
+checkTerms bytes count = searchFrom (rowStep bytes) (checked NoFault) count 0 []

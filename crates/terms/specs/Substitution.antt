@@ -27,14 +27,14 @@ shift k d (succ a) = succ (shift k d a)
 shift k d (ind p a b c) = ind (shift (suc k) d p) (shift k d a) (shift k d b) (shift (suc (suc k)) d c)
 
 -- what the variable i becomes under k binders: what σ puts for it, raised by the binders crossed
-unfoldable pub putFor : ℕ → (ℕ → Term) → ℕ → Term
+unfoldable pub imageUnder : ℕ → (ℕ → Term) → ℕ → Term
 unfolding shift
-putFor k σ i = elim (ltb i k) [ true ↦ var i | false ↦ shift 0 k (σ (i - k)) ]
+imageUnder k σ i = elim (ltb i k) [ true ↦ var i | false ↦ shift 0 k (σ (i - k)) ]
 
 -- all free indices replaced together: σ says what takes the place of each
 unfoldable pub substitute : ℕ → (ℕ → Term) → Term → Term
-unfolding putFor
-substitute k σ (var i) = putFor k σ i
+unfolding imageUnder
+substitute k σ (var i) = imageUnder k σ i
 substitute k σ (univ l) = univ l
 substitute k σ (pi a b) = pi (substitute k σ a) (substitute (suc k) σ b)
 substitute k σ (lam b) = lam (substitute (suc k) σ b)

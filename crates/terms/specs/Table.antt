@@ -1,10 +1,12 @@
--- A well-formed term table: document 01, "The sheet", the clauses on term rows. That there are at most 3,072 rows is the sheet's clause.
+-- A well-formed term table: document 01, "The sheet", the clauses on term rows. That there are at most 3,072 rows is
+-- the sheet's clause.
 use mathlib.Core.Path.{_≡_}
 use mathlib.Core.Bool.{true, false}
-use mathlib.Core.List.{List, [], _∷_}
+use mathlib.Core.List.{List}
 use Prim.Native.Nat.{ℕ, _*_, _≤_, _<_}
 use lib.Dec.{leb}
 use lib.ListN.{length, getD}
+use Rattle.terms.specs.Lists.{AllBelow}
 use Rattle.terms.specs.Term.{size}
 use Rattle.terms.specs.Tag.{Tag, none, Var, Univ, Pi, Lam, App, Sigma, Pair, First, Second, Nat, Zero, Succ, Ind, used}
 use Rattle.terms.specs.Rows.{word, tag, term}
@@ -41,7 +43,8 @@ pub record GoodRow (bytes : List ℕ) (n : ℕ) : Type 0 where
 abbrev pub SameRow : List ℕ → ℕ → ℕ → Type 0
 SameRow bytes m n = (j : ℕ) → j < 5 → word bytes m j ≡ word bytes n j
 
--- the first count rows make a well-formed table: each row keeps its ranges (5), no two are equal (6), and no size is over 65,535 (7)
+-- the first count rows make a well-formed table: each row keeps its ranges (5), no two are equal (6), and no size is
+-- over 65,535 (7)
 pub record TermTable (bytes : List ℕ) (count : ℕ) : Type 0 where
   pub whole : 10 * count ≤ length bytes
   pub rows : (n : ℕ) → n < count → GoodRow bytes n
@@ -58,7 +61,8 @@ pub data RowFault (bytes : List ℕ) (n : ℕ) : ℕ → Type 0 where
   repeated : GoodRow bytes n → RepeatsRow bytes n → RowFault bytes n 6
   large : GoodRow bytes n → (RepeatsRow bytes n → ⊥) → 65535 < size (term bytes n) → RowFault bytes n 7
 
--- row `place` is the first of the first count rows that has a fault, of the given number: the rows before it make a well-formed table
+-- row `place` is the first of the first count rows that has a fault, of the given number: the rows before it make a
+-- well-formed table
 pub record FirstFaultyRow (bytes : List ℕ) (count number place : ℕ) : Type 0 where
   pub within : place < count
   pub before : TermTable bytes place
@@ -69,12 +73,8 @@ pub record TreeSizes (bytes : List ℕ) (n : ℕ) (sizes : List ℕ) : Type 0 wh
   pub long : length sizes ≡ n
   pub each : (k : ℕ) → k < n → getD sizes k 0 ≡ size (term bytes k)
 
-abbrev pub AllBelow : ℕ → List ℕ → Type 0
-AllBelow count [] = Unit {0}
-AllBelow count (n ∷ ns) = (n < count) × AllBelow count ns
-
 -- the rows of the list stand in one well-formed table at the head of the bytes, no larger than a sheet's
-pub record Given (bytes : List ℕ) (ns : List ℕ) : Type 0 where
+pub record RowsInTable (bytes : List ℕ) (ns : List ℕ) : Type 0 where
   pub count : ℕ
   pub few : count ≤ 3072
   pub table : TermTable bytes count

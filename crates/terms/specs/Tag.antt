@@ -92,7 +92,8 @@ shape Zero n x = zer
 shape Succ n x = succ (x 1)
 shape Ind n x = ind (x 1) (x 2) (x 3) (x 4)
 
--- the same view of a given term: its tag, its number (0 where it has none), and its children by place, itself where it has none there
+-- the same view of a given term: its tag, its number (0 where it has none), and its children by place, itself where it
+-- has none there
 unfoldable pub tagIn : Term → Tag
 tagIn (var i) = Var
 tagIn (univ l) = Univ

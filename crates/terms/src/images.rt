@@ -1,8 +1,8 @@
 // Tests that one row spells the shift, or the substitution, of another. Both terms are walked in step, and the
 // walk ends at the first difference: at most 65,535 nodes are visited, at most as deep as there are rows. Some of
 // what held is remembered on the way, since rows share subterms.
-use crate::held::hold;
-use crate::held::is_held;
+use crate::memo::is_remembered;
+use crate::memo::remember;
 use crate::nodes::Node;
 use crate::nodes::child;
 use crate::nodes::is_node;
@@ -15,16 +15,16 @@ ghost use mathlib.Core.List.{[], _∷_};
 ghost use Prim.Native.Nat.{_+_, _*_, _≤_, _<_};
 ghost use Rattle.terms.specs.Decides.{Decides};
 ghost use Rattle.terms.specs.Rows.{term};
-ghost use Rattle.terms.specs.Substitution.{shift, putFor, substitute};
-ghost use Rattle.terms.specs.Table.{Given};
-ghost use Rattle.terms.specs.Held.{Held};
-ghost use Rattle.terms.specs.Images.{loweredOf, imageOf, imageRows, imageTerm, imageNumber, putRows, putting};
+ghost use Rattle.terms.specs.Substitution.{shift, imageUnder, substitute};
+ghost use Rattle.terms.specs.Table.{RowsInTable};
+ghost use Rattle.terms.specs.Memo.{MemoHolds};
+ghost use Rattle.terms.specs.Images.{loweredOf, imageOf, imageRows, imageTerm, imageNumber, substRows, substitution};
 ghost use Rattle.terms.specs.Term.{var, first, succ, ind};
 
-// What is put for index 0: a row, zero, or first of a row, the others being lowered by 1; or succ of the outer
-// variable, the others being raised by 1; or, for y and x together, ind of four rows and its second, the others
-// being lowered by 2. What is put need have no row.
-pub enum Put {
+// A substitution that a rule makes: for index 0 a row, zero, or first of a row, the others being lowered by 1; or succ
+// of the outer variable, the others being raised by 1; or, for y and x together, ind of four rows and its second, the
+// others being lowered by 2. What it brings in need have no row.
+pub enum Subst {
     Row(usize),
     Zero,
     First(usize),
@@ -54,34 +54,34 @@ pub enum Image {
 
 // Does row `u` spell row `t` with its free indices under `k` binders raised by `d`?
 pub fn is_shifted(rows: &[u8], k: usize, d: usize, t: usize, u: usize) -> bool
-    requires { ⌜ Given (now rows) (t ∷ u ∷ []) × (k + 2 * t ≤ 65536) × (d ≤ 65536) ⌝ }
+    requires { ⌜ RowsInTable (now rows) (t ∷ u ∷ []) × (k + 2 * t ≤ 65536) × (d ≤ 65536) ⌝ }
     ensures { λ r. ⌜ Decides r (term (now (rows .entry)) u ≡ shift k d (term (now (rows .entry)) t)) ⌝ }
 {
-    let mut held = [0usize; 64];
-    walk_shifted(rows, k, d, t, u, &mut held)
+    let mut memo = [0usize; 64];
+    walk_shifted(rows, k, d, t, u, &mut memo)
 }
 
 // The same, answered from the memory where it can be.
-fn walk_shifted(rows: &[u8], k: usize, d: usize, t: usize, u: usize, held: &mut [usize; 64]) -> bool
-    requires { ⌜ Given (now rows) (t ∷ u ∷ []) × (k + 2 * t ≤ 65536) × (d ≤ 65536) × Held (now rows) (λ n s. shift n d s) (now held) ⌝ }
+fn walk_shifted(rows: &[u8], k: usize, d: usize, t: usize, u: usize, memo: &mut [usize; 64]) -> bool
+    requires { ⌜ RowsInTable (now rows) (t ∷ u ∷ []) × (k + 2 * t ≤ 65536) × (d ≤ 65536) × MemoHolds (now rows) (λ n s. shift n d s) (now memo) ⌝ }
     ensures answer { λ r. ⌜ Decides r (term (now (rows .entry)) u ≡ shift k d (term (now (rows .entry)) t)) ⌝ }
-    ensures memory { λ r. ⌜ Held (now (rows .entry)) (λ n s. shift n d s) (now (held .exit)) ⌝ }
+    ensures memory { λ r. ⌜ MemoHolds (now (rows .entry)) (λ n s. shift n d s) (now (memo .exit)) ⌝ }
 {
-    if is_held(held, k, t, u) {
+    if is_remembered(memo, k, t, u) {
         return true;
     }
-    if shifted_here(rows, k, d, t, u, held) {
-        hold(held, k, t, u);
+    if shifted_here(rows, k, d, t, u, memo) {
+        remember(memo, k, t, u);
         return true;
     }
     false
 }
 
 // The same, by the heads and the children.
-fn shifted_here(rows: &[u8], k: usize, d: usize, t: usize, u: usize, held: &mut [usize; 64]) -> bool
-    requires { ⌜ Given (now rows) (t ∷ u ∷ []) × (k + 2 * t ≤ 65536) × (d ≤ 65536) × Held (now rows) (λ n s. shift n d s) (now held) ⌝ }
+fn shifted_here(rows: &[u8], k: usize, d: usize, t: usize, u: usize, memo: &mut [usize; 64]) -> bool
+    requires { ⌜ RowsInTable (now rows) (t ∷ u ∷ []) × (k + 2 * t ≤ 65536) × (d ≤ 65536) × MemoHolds (now rows) (λ n s. shift n d s) (now memo) ⌝ }
     ensures answer { λ r. ⌜ Decides r (term (now (rows .entry)) u ≡ shift k d (term (now (rows .entry)) t)) ⌝ }
-    ensures memory { λ r. ⌜ Held (now (rows .entry)) (λ n s. shift n d s) (now (held .exit)) ⌝ }
+    ensures memory { λ r. ⌜ MemoHolds (now (rows .entry)) (λ n s. shift n d s) (now (memo .exit)) ⌝ }
 {
     let tag = word(rows, t, 0);
     if tag == 1 {
@@ -97,7 +97,7 @@ fn shifted_here(rows: &[u8], k: usize, d: usize, t: usize, u: usize, held: &mut 
                 d,
                 word(rows, t, j),
                 word(rows, u, j),
-                held,
+                memo,
             ) {
                 j += 1;
             } else {
@@ -112,7 +112,7 @@ fn shifted_here(rows: &[u8], k: usize, d: usize, t: usize, u: usize, held: &mut 
 
 // Does row `u` spell the variable `i` raised by `d` where it is free under `k` binders?
 fn is_raised_variable(rows: &[u8], k: usize, d: usize, i: usize, u: usize) -> bool
-    requires { ⌜ Given (now rows) (u ∷ []) × (i < 65536) × (d ≤ 65536) ⌝ }
+    requires { ⌜ RowsInTable (now rows) (u ∷ []) × (i < 65536) × (d ≤ 65536) ⌝ }
     ensures { λ r. ⌜ Decides r (term (now (rows .entry)) u ≡ shift k d (var i)) ⌝ }
 {
     if i < k {
@@ -122,16 +122,16 @@ fn is_raised_variable(rows: &[u8], k: usize, d: usize, i: usize, u: usize) -> bo
 }
 
 // What is put for the index `i`.
-fn image_of(put: Put, i: usize) -> Image
+fn image_of(by: Subst, i: usize) -> Image
     requires { ⌜ i ≤ 65536 ⌝ }
-    ensures { λ r. ⌜ r ≡ imageOf put i ⌝ }
+    ensures { λ r. ⌜ r ≡ imageOf by i ⌝ }
 {
-    match put {
-        Put::Row(a) => lowered(Image::Row(a), i),
-        Put::Zero => lowered(Image::Zero, i),
-        Put::First(a) => lowered(Image::First(a), i),
-        Put::OuterSucc => raised(i),
-        Put::Both { p, a, b, c } => lowered_twice(p, a, b, c, i),
+    match by {
+        Subst::Row(a) => lowered(Image::Row(a), i),
+        Subst::Zero => lowered(Image::Zero, i),
+        Subst::First(a) => lowered(Image::First(a), i),
+        Subst::OuterSucc => raised(i),
+        Subst::Both { p, a, b, c } => lowered_twice(p, a, b, c, i),
     }
 }
 
@@ -148,7 +148,7 @@ fn lowered(nearest: Image, i: usize) -> Image
 // succ of the outer variable for index 0, and the other indices raised by 1.
 fn raised(i: usize) -> Image
     requires { ⌜ i ≤ 65536 ⌝ }
-    ensures { λ r. ⌜ r ≡ imageOf Put.OuterSucc i ⌝ }
+    ensures { λ r. ⌜ r ≡ imageOf Subst.OuterSucc i ⌝ }
 {
     if i == 0 {
         return Image::SuccVar(1);
@@ -158,7 +158,7 @@ fn raised(i: usize) -> Image
 
 // ind of the four rows for index 0, its second for index 1, and the other indices lowered by 2.
 fn lowered_twice(p: usize, a: usize, b: usize, c: usize, i: usize) -> Image
-    ensures { λ r. ⌜ r ≡ imageOf (Put.Both p a b c) i ⌝ }
+    ensures { λ r. ⌜ r ≡ imageOf (Subst.Both p a b c) i ⌝ }
 {
     if i == 0 {
         return Image::Ind { p, a, b, c };
@@ -168,7 +168,7 @@ fn lowered_twice(p: usize, a: usize, b: usize, c: usize, i: usize) -> Image
 
 // Does row `u` spell first of row `a` raised by `k`?
 fn is_raised_first(rows: &[u8], k: usize, a: usize, u: usize) -> bool
-    requires { ⌜ Given (now rows) (a ∷ u ∷ []) × (k ≤ 65536) ⌝ }
+    requires { ⌜ RowsInTable (now rows) (a ∷ u ∷ []) × (k ≤ 65536) ⌝ }
     ensures { λ r. ⌜ Decides r (term (now (rows .entry)) u ≡ shift 0 k (first (term (now (rows .entry)) a))) ⌝ }
 {
     let v = child(rows, u, 1);
@@ -181,7 +181,7 @@ fn is_raised_first(rows: &[u8], k: usize, a: usize, u: usize) -> bool
 
 // Does row `u` spell succ of the variable `i` raised by `k`?
 fn is_raised_succ(rows: &[u8], k: usize, i: usize, u: usize) -> bool
-    requires { ⌜ Given (now rows) (u ∷ []) × (i ≤ 65540) × (k ≤ 65536) ⌝ }
+    requires { ⌜ RowsInTable (now rows) (u ∷ []) × (i ≤ 65540) × (k ≤ 65536) ⌝ }
     ensures { λ r. ⌜ Decides r (term (now (rows .entry)) u ≡ shift 0 k (succ (var i))) ⌝ }
 {
     let v = child(rows, u, 1);
@@ -190,7 +190,7 @@ fn is_raised_succ(rows: &[u8], k: usize, i: usize, u: usize) -> bool
 
 // Does row `u` spell ind of the four rows raised by `k`?
 fn is_raised_ind(rows: &[u8], k: usize, p: usize, a: usize, b: usize, c: usize, u: usize) -> bool
-    requires { ⌜ Given (now rows) (p ∷ a ∷ b ∷ c ∷ u ∷ []) × (k ≤ 65536) ⌝ }
+    requires { ⌜ RowsInTable (now rows) (p ∷ a ∷ b ∷ c ∷ u ∷ []) × (k ≤ 65536) ⌝ }
     ensures { λ r. ⌜ Decides r (term (now (rows .entry)) u ≡ shift 0 k (ind (term (now (rows .entry)) p) (term (now (rows .entry)) a) (term (now (rows .entry)) b) (term (now (rows .entry)) c))) ⌝ }
 {
     let v = child(rows, u, 1);
@@ -209,7 +209,7 @@ fn is_raised_ind(rows: &[u8], k: usize, p: usize, a: usize, b: usize, c: usize, 
 
 // Does row `u` spell the image raised by `k`?
 fn is_raised_image(rows: &[u8], k: usize, image: Image, u: usize) -> bool
-    requires { ⌜ Given (now rows) (u ∷ imageRows image) × (imageNumber image ≤ 65540) × (k ≤ 65536) ⌝ }
+    requires { ⌜ RowsInTable (now rows) (u ∷ imageRows image) × (imageNumber image ≤ 65540) × (k ≤ 65536) ⌝ }
     ensures { λ r. ⌜ Decides r (term (now (rows .entry)) u ≡ shift 0 k (imageTerm (now (rows .entry)) image)) ⌝ }
 {
     match image {
@@ -223,43 +223,43 @@ fn is_raised_image(rows: &[u8], k: usize, image: Image, u: usize) -> bool
 }
 
 // Does row `u` spell what is put for the index `i` under `k` binders?
-fn is_put(rows: &[u8], k: usize, put: Put, i: usize, u: usize) -> bool
-    requires { ⌜ Given (now rows) (u ∷ putRows put) × (i < 65536) × (k ≤ 65536) ⌝ }
-    ensures { λ r. ⌜ Decides r (term (now (rows .entry)) u ≡ putFor k (putting (now (rows .entry)) put) i) ⌝ }
+fn is_image(rows: &[u8], k: usize, by: Subst, i: usize, u: usize) -> bool
+    requires { ⌜ RowsInTable (now rows) (u ∷ substRows by) × (i < 65536) × (k ≤ 65536) ⌝ }
+    ensures { λ r. ⌜ Decides r (term (now (rows .entry)) u ≡ imageUnder k (substitution (now (rows .entry)) by) i) ⌝ }
 {
     if i < k {
         return is_node(rows, u, Node::Var(i));
     }
-    is_raised_image(rows, k, image_of(put, i - k), u)
+    is_raised_image(rows, k, image_of(by, i - k), u)
 }
 
 // Does row `u` spell row `t` with what is put for its free indices under `k` binders?
-pub fn is_substituted(rows: &[u8], k: usize, put: Put, t: usize, u: usize) -> bool
-    requires { ⌜ Given (now rows) (t ∷ u ∷ putRows put) × (k + 2 * t ≤ 65536) ⌝ }
-    ensures { λ r. ⌜ Decides r (term (now (rows .entry)) u ≡ substitute k (putting (now (rows .entry)) put) (term (now (rows .entry)) t)) ⌝ }
+pub fn is_substituted(rows: &[u8], k: usize, by: Subst, t: usize, u: usize) -> bool
+    requires { ⌜ RowsInTable (now rows) (t ∷ u ∷ substRows by) × (k + 2 * t ≤ 65536) ⌝ }
+    ensures { λ r. ⌜ Decides r (term (now (rows .entry)) u ≡ substitute k (substitution (now (rows .entry)) by) (term (now (rows .entry)) t)) ⌝ }
 {
-    let mut held = [0usize; 64];
-    walk_substituted(rows, k, put, t, u, &mut held)
+    let mut memo = [0usize; 64];
+    walk_substituted(rows, k, by, t, u, &mut memo)
 }
 
 // The same, answered from the memory where it can be.
 fn walk_substituted(
     rows: &[u8],
     k: usize,
-    put: Put,
+    by: Subst,
     t: usize,
     u: usize,
-    held: &mut [usize; 64],
+    memo: &mut [usize; 64],
 ) -> bool
-    requires { ⌜ Given (now rows) (t ∷ u ∷ putRows put) × (k + 2 * t ≤ 65536) × Held (now rows) (λ n s. substitute n (putting (now rows) put) s) (now held) ⌝ }
-    ensures answer { λ r. ⌜ Decides r (term (now (rows .entry)) u ≡ substitute k (putting (now (rows .entry)) put) (term (now (rows .entry)) t)) ⌝ }
-    ensures memory { λ r. ⌜ Held (now (rows .entry)) (λ n s. substitute n (putting (now (rows .entry)) put) s) (now (held .exit)) ⌝ }
+    requires { ⌜ RowsInTable (now rows) (t ∷ u ∷ substRows by) × (k + 2 * t ≤ 65536) × MemoHolds (now rows) (λ n s. substitute n (substitution (now rows) by) s) (now memo) ⌝ }
+    ensures answer { λ r. ⌜ Decides r (term (now (rows .entry)) u ≡ substitute k (substitution (now (rows .entry)) by) (term (now (rows .entry)) t)) ⌝ }
+    ensures memory { λ r. ⌜ MemoHolds (now (rows .entry)) (λ n s. substitute n (substitution (now (rows .entry)) by) s) (now (memo .exit)) ⌝ }
 {
-    if is_held(held, k, t, u) {
+    if is_remembered(memo, k, t, u) {
         return true;
     }
-    if substituted_here(rows, k, put, t, u, held) {
-        hold(held, k, t, u);
+    if substituted_here(rows, k, by, t, u, memo) {
+        remember(memo, k, t, u);
         return true;
     }
     false
@@ -269,18 +269,18 @@ fn walk_substituted(
 fn substituted_here(
     rows: &[u8],
     k: usize,
-    put: Put,
+    by: Subst,
     t: usize,
     u: usize,
-    held: &mut [usize; 64],
+    memo: &mut [usize; 64],
 ) -> bool
-    requires { ⌜ Given (now rows) (t ∷ u ∷ putRows put) × (k + 2 * t ≤ 65536) × Held (now rows) (λ n s. substitute n (putting (now rows) put) s) (now held) ⌝ }
-    ensures answer { λ r. ⌜ Decides r (term (now (rows .entry)) u ≡ substitute k (putting (now (rows .entry)) put) (term (now (rows .entry)) t)) ⌝ }
-    ensures memory { λ r. ⌜ Held (now (rows .entry)) (λ n s. substitute n (putting (now (rows .entry)) put) s) (now (held .exit)) ⌝ }
+    requires { ⌜ RowsInTable (now rows) (t ∷ u ∷ substRows by) × (k + 2 * t ≤ 65536) × MemoHolds (now rows) (λ n s. substitute n (substitution (now rows) by) s) (now memo) ⌝ }
+    ensures answer { λ r. ⌜ Decides r (term (now (rows .entry)) u ≡ substitute k (substitution (now (rows .entry)) by) (term (now (rows .entry)) t)) ⌝ }
+    ensures memory { λ r. ⌜ MemoHolds (now (rows .entry)) (λ n s. substitute n (substitution (now (rows .entry)) by) s) (now (memo .exit)) ⌝ }
 {
     let tag = word(rows, t, 0);
     if tag == 1 {
-        return is_put(rows, k, put, word(rows, t, 1), u);
+        return is_image(rows, k, by, word(rows, t, 1), u);
     }
     if same_head(rows, t, u) {
         let count = arity(tag);
@@ -289,10 +289,10 @@ fn substituted_here(
             if walk_substituted(
                 rows,
                 k + binders(tag, j),
-                put,
+                by,
                 word(rows, t, j),
                 word(rows, u, j),
-                held,
+                memo,
             ) {
                 j += 1;
             } else {

@@ -9,7 +9,7 @@ ghost use Prim.Native.Nat.{_≤_, _<_};
 ghost use Rattle.terms.specs.Decides.{Decides};
 ghost use Rattle.terms.specs.Rows.{term};
 ghost use Rattle.terms.specs.Tag.{child as childOf, numberIn};
-ghost use Rattle.terms.specs.Table.{Given};
+ghost use Rattle.terms.specs.Table.{RowsInTable};
 ghost use Rattle.terms.specs.Nodes.{nodeRow, nodeChildren, nodeTerm, SameHead};
 
 // A term by its head: the numbers are rows, but for an index and a level. The term itself need have no row.
@@ -58,7 +58,7 @@ fn node_row(node: Node) -> Row
 
 // Does row `n` spell the node?
 pub fn is_node(rows: &[u8], n: usize, node: Node) -> bool
-    requires { ⌜ Given (now rows) (n ∷ nodeChildren node) ⌝ }
+    requires { ⌜ RowsInTable (now rows) (n ∷ nodeChildren node) ⌝ }
     ensures { λ r. ⌜ Decides r (term (now (rows .entry)) n ≡ nodeTerm (now (rows .entry)) node) ⌝ }
 {
     holds(rows, n, node_row(node))
@@ -66,7 +66,7 @@ pub fn is_node(rows: &[u8], n: usize, node: Node) -> bool
 
 // Do rows `t` and `u` spell equal terms?
 pub fn same_term(rows: &[u8], t: usize, u: usize) -> bool
-    requires { ⌜ Given (now rows) (t ∷ u ∷ []) ⌝ }
+    requires { ⌜ RowsInTable (now rows) (t ∷ u ∷ []) ⌝ }
     ensures { λ r. ⌜ Decides r (term (now (rows .entry)) t ≡ term (now (rows .entry)) u) ⌝ }
 {
     t == u
@@ -74,7 +74,7 @@ pub fn same_term(rows: &[u8], t: usize, u: usize) -> bool
 
 // The row of the child at place `j`, or `n` itself where its term has no such child.
 pub fn child(rows: &[u8], n: usize, j: usize) -> usize
-    requires { ⌜ Given (now rows) (n ∷ []) × (1 ≤ j) × (j ≤ 4) ⌝ }
+    requires { ⌜ RowsInTable (now rows) (n ∷ []) × (1 ≤ j) × (j ≤ 4) ⌝ }
     ensures value { λ r. ⌜ term (now (rows .entry)) r ≡ childOf (term (now (rows .entry)) n) j ⌝ }
     ensures below { λ r. ⌜ r ≤ n ⌝ }
 {
@@ -86,7 +86,7 @@ pub fn child(rows: &[u8], n: usize, j: usize) -> usize
 
 // The index of a variable or the level of a universe, and 0 for any other term.
 pub fn number(rows: &[u8], n: usize) -> usize
-    requires { ⌜ Given (now rows) (n ∷ []) ⌝ }
+    requires { ⌜ RowsInTable (now rows) (n ∷ []) ⌝ }
     ensures value { λ r. ⌜ r ≡ numberIn (term (now (rows .entry)) n) ⌝ }
     ensures range { λ r. ⌜ r < 65536 ⌝ }
 {
@@ -98,7 +98,7 @@ pub fn number(rows: &[u8], n: usize) -> usize
 
 // Have rows `t` and `u` the same tag and the same number?
 pub fn same_head(rows: &[u8], t: usize, u: usize) -> bool
-    requires { ⌜ Given (now rows) (t ∷ u ∷ []) ⌝ }
+    requires { ⌜ RowsInTable (now rows) (t ∷ u ∷ []) ⌝ }
     ensures { λ r. ⌜ Decides r (SameHead (term (now (rows .entry)) t) (term (now (rows .entry)) u)) ⌝ }
 {
     (word(rows, t, 0) == word(rows, u, 0)) & (number(rows, t) == number(rows, u))

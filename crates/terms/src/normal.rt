@@ -8,7 +8,7 @@ ghost use Prim.Native.Nat.{_≤_};
 ghost use Rattle.terms.specs.Decides.{Decides};
 ghost use Rattle.terms.specs.Rows.{term};
 ghost use Rattle.terms.specs.Tag.{tagOf};
-ghost use Rattle.terms.specs.Table.{Given};
+ghost use Rattle.terms.specs.Table.{RowsInTable};
 ghost use Rattle.terms.specs.NormalForms.{Normal, Neutral};
 ghost use Rattle.terms.specs.Recognition.{headsNeutral, scrutinised as scrutinisedAt, Known};
 
@@ -36,7 +36,7 @@ fn scrutinised(tag: usize) -> usize
 
 // Is the term of row `t` normal? A term that could be neutral must be, any other has normal children.
 fn walk_normal(rows: &[u8], t: usize, known: &mut [u8; 3072]) -> bool
-    requires { ⌜ Given (now rows) (t ∷ []) × Known (now rows) (now known) ⌝ }
+    requires { ⌜ RowsInTable (now rows) (t ∷ []) × Known (now rows) (now known) ⌝ }
     ensures answer { λ r. ⌜ Decides r (Normal (term (now (rows .entry)) t)) ⌝ }
     ensures memory { λ _. ⌜ Known (now (rows .entry)) (now (known .exit)) ⌝ }
 {
@@ -61,7 +61,7 @@ fn walk_normal(rows: &[u8], t: usize, known: &mut [u8; 3072]) -> bool
 
 // Is the term of row `t` neutral? The child that is scrutinised must be neutral, and the others normal.
 fn walk_neutral(rows: &[u8], t: usize, known: &mut [u8; 3072]) -> bool
-    requires { ⌜ Given (now rows) (t ∷ []) × Known (now rows) (now known) ⌝ }
+    requires { ⌜ RowsInTable (now rows) (t ∷ []) × Known (now rows) (now known) ⌝ }
     ensures answer { λ r. ⌜ Decides r (Neutral (term (now (rows .entry)) t)) ⌝ }
     ensures memory { λ _. ⌜ Known (now (rows .entry)) (now (known .exit)) ⌝ }
 {
@@ -92,7 +92,7 @@ fn walk_neutral(rows: &[u8], t: usize, known: &mut [u8; 3072]) -> bool
 
 // Is the term of row `t` normal? Nothing is remembered at first.
 pub fn is_normal(rows: &[u8], t: usize) -> bool
-    requires { ⌜ Given (now rows) (t ∷ []) ⌝ }
+    requires { ⌜ RowsInTable (now rows) (t ∷ []) ⌝ }
     ensures { λ r. ⌜ Decides r (Normal (term (now (rows .entry)) t)) ⌝ }
 {
     let mut known = [0u8; 3072];

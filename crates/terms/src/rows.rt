@@ -3,8 +3,7 @@ use crate::words::word_at;
 ghost use mathlib.Core.Path.{_≡_};
 ghost use Prim.Native.Nat.{_+_, _*_, _<_, _≤_};
 ghost use lib.ListN.{length};
-ghost use Rattle.terms.specs.Rows.{word as wordOf};
-ghost use Rattle.terms.specs.Sizes.{rowOf, holdsRow};
+ghost use Rattle.terms.specs.Rows.{word as wordOf, rowOf, holdsRow};
 
 // The five words of a row, whether or not a table holds them.
 pub struct Row {

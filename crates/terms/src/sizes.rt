@@ -11,7 +11,9 @@ ghost use mathlib.Core.Bool.{true};
 ghost use mathlib.Core.List.{List};
 ghost use Prim.Native.Nat.{ℕ, _*_, _<_, _≤_};
 ghost use lib.ListN.{length, getD};
-ghost use Rattle.terms.specs.Sizes.{fitsRow, rowOf, rowSize, rowAnswer, checkTerms, over};
+ghost use Rattle.terms.specs.Sizes.{fitsRow, rowSize, rowAnswer, checkTerms};
+ghost use Rattle.terms.specs.Rows.{rowOf};
+ghost use Rattle.terms.specs.Buffers.{over};
 ghost use Rattle.terms.specs.RowIndex.{bucketOf, Indexed};
 
 // What the check of one row finds.
@@ -22,7 +24,7 @@ pub enum RowAnswer {
 
 // What the check of a table finds: every row is right, or the first fault and its row.
 pub enum TermsAnswer {
-    Sound,
+    NoFault,
     Faulty { number: usize, place: usize },
 }
 
@@ -124,15 +126,13 @@ fn check_rows(
                 return TermsAnswer::Faulty { number, place: k };
             }
             RowAnswer::Size(size) => {
-                // term k has word k
-                let at = k;
-                work[at] = size;
+                work[k] = size;
             }
         }
         add_row(k, bucket, heads, links);
         k += 1;
     }
-    TermsAnswer::Sound
+    TermsAnswer::NoFault
 }
 
 // Checks the first `count` rows in order. The words of `work` take the sizes of the rows before the first fault.

@@ -26,14 +26,14 @@ fn write_shift_tests(rows: &[u8])
     tests::deep_shifts(rows);
 }
 
-fn write_put_tests(rows: &[u8])
+fn write_substituted_tests(rows: &[u8])
     requires { ⌜ TermTable (now rows) 43 ⌝ }
 {
-    tests::put_rows(rows);
-    tests::put_rows_under(rows);
-    tests::put_described(rows);
-    tests::put_outer_succ(rows);
-    tests::put_both(rows);
+    tests::substituted_rows(rows);
+    tests::substituted_rows_under(rows);
+    tests::substituted_described(rows);
+    tests::substituted_outer_succ(rows);
+    tests::substituted_both(rows);
 }
 
 fn write_tests(rows: &[u8])
@@ -41,7 +41,7 @@ fn write_tests(rows: &[u8])
 {
     write_head_tests(rows);
     write_shift_tests(rows);
-    write_put_tests(rows);
+    write_substituted_tests(rows);
 }
 
 fn whole_table() {
@@ -50,7 +50,7 @@ fn whole_table() {
     tables::fill(&table, &mut rows);
     let mut work = [0u32; 45];
     match writing::checked(&rows, 43, &mut work) {
-        TermsAnswer::Sound => {
+        TermsAnswer::NoFault => {
             write_tests(&rows);
         }
         TermsAnswer::Faulty { number, place } => {}
@@ -63,8 +63,8 @@ fn bare_table() {
     tables::fill(&table, &mut rows);
     let mut work = [0u32; 6];
     match writing::checked(&rows, 6, &mut work) {
-        TermsAnswer::Sound => {
-            tests::put_without_rows(&rows);
+        TermsAnswer::NoFault => {
+            tests::substituted_without_rows(&rows);
         }
         TermsAnswer::Faulty { number, place } => {}
     }

@@ -1,7 +1,8 @@
-// The tests, on the rows of `tables::TABLE` unless another table is named; each writes its answers. What a row spells stands in `tables`.
+// The tests, on the rows of `tables::TABLE` unless another table is named; each writes its answers. What a row spells
+// stands in `tables`.
 use crate::writing::write_answers;
 use crate::writing::write_numbers;
-use terms::images::Put;
+use terms::images::Subst;
 use terms::images::is_shifted;
 use terms::images::is_substituted;
 use terms::nodes::Node;
@@ -14,10 +15,10 @@ ghost use mathlib.Core.Path.{_≡_};
 ghost use mathlib.Core.List.{[], _∷_};
 ghost use Prim.Native.Nat.{_*_, _≤_};
 ghost use Rattle.terms.specs.Decides.{Decides};
-ghost use Rattle.terms.specs.Images.{putting};
+ghost use Rattle.terms.specs.Images.{substitution};
 ghost use Rattle.terms.specs.Rows.{term};
 ghost use Rattle.terms.specs.Substitution.{substitute};
-ghost use Rattle.terms.specs.Table.{TermTable, Given};
+ghost use Rattle.terms.specs.Table.{TermTable, RowsInTable};
 
 // Each constructor, with a row that spells it: all yes.
 pub fn nodes(rows: &[u8])
@@ -190,99 +191,99 @@ pub fn deep_shifts(rows: &[u8])
 }
 
 // A row put for index 0.
-pub fn put_rows(rows: &[u8])
+pub fn substituted_rows(rows: &[u8])
     requires { ⌜ TermTable (now rows) 43 ⌝ }
 {
     let answers = [
         // v0[Nat] is Nat: yes
-        is_substituted(rows, 0, Put::Row(0), 2, 0),
+        is_substituted(rows, 0, Subst::Row(0), 2, 0),
         // v1[Nat] is v0, lowered: yes; v1: no
-        is_substituted(rows, 0, Put::Row(0), 3, 2),
-        is_substituted(rows, 0, Put::Row(0), 3, 3),
+        is_substituted(rows, 0, Subst::Row(0), 3, 2),
+        is_substituted(rows, 0, Subst::Row(0), 3, 3),
         // lambda(v0)[Nat] stays: yes
-        is_substituted(rows, 0, Put::Row(0), 8, 8),
+        is_substituted(rows, 0, Subst::Row(0), 8, 8),
         // under one binder: v0 stays: yes; v1 becomes lambda(v1) raised, lambda(v2): yes, no
-        is_substituted(rows, 1, Put::Row(9), 2, 2),
-        is_substituted(rows, 1, Put::Row(9), 3, 10),
-        is_substituted(rows, 1, Put::Row(9), 3, 9),
+        is_substituted(rows, 1, Subst::Row(9), 2, 2),
+        is_substituted(rows, 1, Subst::Row(9), 3, 10),
+        is_substituted(rows, 1, Subst::Row(9), 3, 9),
     ];
     write_answers(b"row put", &answers);
 }
 
 // A row put for index 0 under the binder of a Sigma.
-pub fn put_rows_under(rows: &[u8])
+pub fn substituted_rows_under(rows: &[u8])
     requires { ⌜ TermTable (now rows) 43 ⌝ }
 {
     let answers = [
         // Sigma(Nat, v1)[v0] is Sigma(Nat, v1), as v0 is raised: yes; Sigma(Nat, v0): no
-        is_substituted(rows, 0, Put::Row(2), 14, 14),
-        is_substituted(rows, 0, Put::Row(2), 14, 15),
+        is_substituted(rows, 0, Subst::Row(2), 14, 14),
+        is_substituted(rows, 0, Subst::Row(2), 14, 15),
         // Sigma(Nat, v1)[v1] is Sigma(Nat, v2): yes
-        is_substituted(rows, 0, Put::Row(3), 14, 16),
+        is_substituted(rows, 0, Subst::Row(3), 14, 16),
         // Sigma(Nat, v2)[v0] is Sigma(Nat, v1), lowered: yes, no
-        is_substituted(rows, 0, Put::Row(2), 16, 14),
-        is_substituted(rows, 0, Put::Row(2), 16, 16),
+        is_substituted(rows, 0, Subst::Row(2), 16, 14),
+        is_substituted(rows, 0, Subst::Row(2), 16, 16),
         // Sigma(Nat, v0)[v1] stays, as v0 is bound there: yes, no
-        is_substituted(rows, 0, Put::Row(3), 15, 15),
-        is_substituted(rows, 0, Put::Row(3), 15, 16),
+        is_substituted(rows, 0, Subst::Row(3), 15, 15),
+        is_substituted(rows, 0, Subst::Row(3), 15, 16),
     ];
     write_answers(b"row put under a binder", &answers);
 }
 
 // zero, and first of a row, put for index 0.
-pub fn put_described(rows: &[u8])
+pub fn substituted_described(rows: &[u8])
     requires { ⌜ TermTable (now rows) 43 ⌝ }
 {
     let answers = [
         // v0[zero] is zero: yes
-        is_substituted(rows, 0, Put::Zero, 2, 7),
+        is_substituted(rows, 0, Subst::Zero, 2, 7),
         // Sigma(Nat, v1)[zero] is Sigma(Nat, zero): yes
-        is_substituted(rows, 0, Put::Zero, 14, 17),
+        is_substituted(rows, 0, Subst::Zero, 14, 17),
         // Sigma(Nat, v0)[zero] stays: yes, no
-        is_substituted(rows, 0, Put::Zero, 15, 15),
-        is_substituted(rows, 0, Put::Zero, 15, 17),
+        is_substituted(rows, 0, Subst::Zero, 15, 15),
+        is_substituted(rows, 0, Subst::Zero, 15, 17),
         // v0[first(v1)] is first(v1): yes; v0[first(v0)] is not: no
-        is_substituted(rows, 0, Put::First(3), 2, 18),
-        is_substituted(rows, 0, Put::First(2), 2, 18),
+        is_substituted(rows, 0, Subst::First(3), 2, 18),
+        is_substituted(rows, 0, Subst::First(2), 2, 18),
         // Sigma(Nat, v1)[first(v0)] is Sigma(Nat, first(v1)), and first(v0) has no row: yes
-        is_substituted(rows, 0, Put::First(2), 14, 19),
+        is_substituted(rows, 0, Subst::First(2), 14, 19),
         // Sigma(Nat, v1)[first(v1)] is Sigma(Nat, first(v2)): no
-        is_substituted(rows, 0, Put::First(3), 14, 19),
+        is_substituted(rows, 0, Subst::First(3), 14, 19),
     ];
     write_answers(b"zero or first put", &answers);
 }
 
 // succ of the outer variable for index 0, the others raised by 1.
-pub fn put_outer_succ(rows: &[u8])
+pub fn substituted_outer_succ(rows: &[u8])
     requires { ⌜ TermTable (now rows) 43 ⌝ }
 {
     let answers = [
         // v0 becomes succ(v1), which has no row; 20 is succ(v2): no
-        is_substituted(rows, 0, Put::OuterSucc, 2, 20),
+        is_substituted(rows, 0, Subst::OuterSucc, 2, 20),
         // Sigma(Nat, v1) becomes Sigma(Nat, succ(v2)), raised under the binder: yes
-        is_substituted(rows, 0, Put::OuterSucc, 14, 21),
+        is_substituted(rows, 0, Subst::OuterSucc, 14, 21),
         // v1 becomes v2: yes, no
-        is_substituted(rows, 0, Put::OuterSucc, 3, 4),
-        is_substituted(rows, 0, Put::OuterSucc, 3, 3),
+        is_substituted(rows, 0, Subst::OuterSucc, 3, 4),
+        is_substituted(rows, 0, Subst::OuterSucc, 3, 3),
         // lambda(v2) becomes lambda(v3): yes
-        is_substituted(rows, 0, Put::OuterSucc, 10, 11),
+        is_substituted(rows, 0, Subst::OuterSucc, 10, 11),
         // lambda(v0) stays: yes, no
-        is_substituted(rows, 0, Put::OuterSucc, 8, 8),
-        is_substituted(rows, 0, Put::OuterSucc, 8, 9),
+        is_substituted(rows, 0, Subst::OuterSucc, 8, 8),
+        is_substituted(rows, 0, Subst::OuterSucc, 8, 9),
     ];
     write_answers(b"succ put", &answers);
 }
 
 // Does row `u` spell row `t` with ind(p, a, b, c) for index 0, a for index 1, and the others lowered by 2?
 fn is_both(rows: &[u8], p: usize, a: usize, b: usize, c: usize, t: usize, u: usize) -> bool
-    requires { ⌜ Given (now rows) (t ∷ u ∷ p ∷ a ∷ b ∷ c ∷ []) × (2 * t ≤ 65536) ⌝ }
-    ensures { λ r. ⌜ Decides r (term (now (rows .entry)) u ≡ substitute 0 (putting (now (rows .entry)) (Put.Both p a b c)) (term (now (rows .entry)) t)) ⌝ }
+    requires { ⌜ RowsInTable (now rows) (t ∷ u ∷ p ∷ a ∷ b ∷ c ∷ []) × (2 * t ≤ 65536) ⌝ }
+    ensures { λ r. ⌜ Decides r (term (now (rows .entry)) u ≡ substitute 0 (substitution (now (rows .entry)) (Subst.Both p a b c)) (term (now (rows .entry)) t)) ⌝ }
 {
-    is_substituted(rows, 0, Put::Both { p, a, b, c }, t, u)
+    is_substituted(rows, 0, Subst::Both { p, a, b, c }, t, u)
 }
 
 // E-INDSUC: ind(P, a, b, c) for y and a for x, together.
-pub fn put_both(rows: &[u8])
+pub fn substituted_both(rows: &[u8])
     requires { ⌜ TermTable (now rows) 43 ⌝ }
 {
     let answers = [
@@ -308,21 +309,21 @@ pub fn put_both(rows: &[u8])
 }
 
 // `tables::BARE` has no zero, first, succ or ind: where index 0 occurs, no row spells the result.
-pub fn put_without_rows(rows: &[u8])
+pub fn substituted_without_rows(rows: &[u8])
     requires { ⌜ TermTable (now rows) 6 ⌝ }
 {
     let answers = [
         // zero: Nat and lambda(v0) stay: yes, yes; v0 does not: no
-        is_substituted(rows, 0, Put::Zero, 0, 0),
-        is_substituted(rows, 0, Put::Zero, 4, 4),
-        is_substituted(rows, 0, Put::Zero, 1, 1),
+        is_substituted(rows, 0, Subst::Zero, 0, 0),
+        is_substituted(rows, 0, Subst::Zero, 4, 4),
+        is_substituted(rows, 0, Subst::Zero, 1, 1),
         // first(v0): v1 becomes v0: yes; v0 becomes first(v0): no; Pi(Nat, v2) becomes Pi(Nat, v1): no
-        is_substituted(rows, 0, Put::First(1), 2, 1),
-        is_substituted(rows, 0, Put::First(1), 1, 1),
-        is_substituted(rows, 0, Put::First(1), 5, 5),
+        is_substituted(rows, 0, Subst::First(1), 2, 1),
+        is_substituted(rows, 0, Subst::First(1), 1, 1),
+        is_substituted(rows, 0, Subst::First(1), 5, 5),
         // succ of the outer variable: v1 becomes v2: yes; v0 becomes succ(v1): no
-        is_substituted(rows, 0, Put::OuterSucc, 2, 3),
-        is_substituted(rows, 0, Put::OuterSucc, 1, 1),
+        is_substituted(rows, 0, Subst::OuterSucc, 2, 3),
+        is_substituted(rows, 0, Subst::OuterSucc, 1, 1),
         // ind(Nat, v0, Nat, v1) and v0: v2 becomes v0: yes; x becomes v0: yes; y becomes the ind: no
         is_both(rows, 0, 1, 0, 2, 3, 1),
         is_both(rows, 0, 1, 0, 2, 2, 1),

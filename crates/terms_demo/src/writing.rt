@@ -4,7 +4,8 @@ use terms::sizes::check_terms;
 ghost use mathlib.Core.Path.{_≡_};
 ghost use Prim.Native.Nat.{_*_, _≤_};
 ghost use lib.ListN.{length};
-ghost use Rattle.terms.specs.Sizes.{checkTerms, over};
+ghost use Rattle.terms.specs.Sizes.{checkTerms};
+ghost use Rattle.terms.specs.Buffers.{over};
 
 // `NAME N: yes` or `NAME N: no` for each answer, N from 1.
 pub fn write_answers(name: &[u8], answers: &[bool]) {
@@ -43,7 +44,7 @@ fn write_numbered(name: &[u8], n: usize) {
 // `sound`, or a fault's number and place.
 fn write_answer(answer: TermsAnswer) {
     match answer {
-        TermsAnswer::Sound => {
+        TermsAnswer::NoFault => {
             io::write_all(1, b"sound");
         }
         TermsAnswer::Faulty { number, place } => {

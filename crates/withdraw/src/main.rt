@@ -1,5 +1,5 @@
-// Withdraws line LINE of the sheet on standard input, and prints `ok` with the new length or `refused` with number and place. The
-// new sheet goes to NEWFILE, which is made only then and must not be there before.
+// Withdraws line LINE of the sheet on standard input, and prints `ok` with the new length or `refused` with number and
+// place. The new sheet goes to NEWFILE, which is made only then and must not be there before.
 use answers::input::read_sheet;
 use answers::numbers::Reading;
 use answers::numbers::read_number;

@@ -1,5 +1,5 @@
 use mathlib.Core.Path.{_∙_, ap, subst}
-use Rattle.sheets.specs.Withdrawal.{Withdrawn}
+use Rattle.sheets.specs.Withdrawal.{KeepsTheOthers}
 use Rattle.mengyubad.specs.Replies.{withdrawalReply}
 use Rattle.mengyubad.proofs.ReplyLaws.{given-equal}
 use borrow.Author.Needs.{needs}
@@ -22,7 +22,12 @@ same-length-2 : tie.Need-same-length-2
 same-length-2 c = search needs
 
 returns : tie.Need-returns
-returns c = (given-equal (c .before .before .withdrawal-reply .ensures ∙ ap withdrawalReply (c .before .before .before .before .before .before .before .withdraw .ensures .0)) (c .give .ensures), (c .before .before .before .before .before .before .before .withdraw .ensures .1 .0, (c .before .before .before .before .before .before .before .withdraw .ensures .1 .1 .0, subst (Withdrawn _ _ _) (c .before .before .before .before .before .before .before .withdraw .ensures .0) (c .before .before .before .before .before .before .before .withdraw .ensures .1 .1 .1))))
+returns c =
+    let c7 = c .before .before .before .before .before .before .before in
+    let said = c7 .withdraw .ensures in (
+      given-equal (c .before .before .withdrawal-reply .ensures ∙ ap withdrawalReply (said .0)) (c .give .ensures),
+      (said .1 .0, (said .1 .1 .0, subst (KeepsTheOthers _ _ _) (said .0) (said .1 .1 .1))),
+    )
 
 pub mengyubad-withdraw-spec : {M : Type 1} → statement M
 mengyubad-withdraw-spec =

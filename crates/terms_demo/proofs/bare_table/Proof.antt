@@ -1,6 +1,6 @@
 -- The tests run only where the check found the table sound.
 use native.Mathlib.Omega.{arith}
-use Rattle.terms_demo.proofs.InTable.{sound-rows}
+use Rattle.terms_demo.proofs.InTable.{faultless-rows}
 use borrow.Author.Needs.{needs}
 use Rattle.terms_demo.proofs.bare_table.Statement.{statement}
 use Rattle.terms_demo.proofs.bare_table.Tie as tie
@@ -26,11 +26,11 @@ checked-requires c κs = search needs
 enum-told : tie.Need-enum-told
 enum-told c = search needs
 
-slice-aggregate-put-without-rows : tie.Need-slice-aggregate-put-without-rows
-slice-aggregate-put-without-rows c = search needs
+slice-aggregate-substituted-without-rows : tie.Need-slice-aggregate-substituted-without-rows
+slice-aggregate-substituted-without-rows c = search needs
 
-put-without-rows-requires : tie.Need-put-without-rows-requires
-put-without-rows-requires c κs = sound-rows _ 6 _ (c .before .before .before .before .checked .ensures .0) (c .before .enum-told .given .1) (omega arith)
+substituted-without-rows-requires : tie.Need-substituted-without-rows-requires
+substituted-without-rows-requires c κs = faultless-rows _ 6 _ (c .before .before .before .before .checked .ensures .0) (c .before .enum-told .given .1) (omega arith)
 
 enum-known-number : tie.Need-enum-known-number
 enum-known-number c = search needs
@@ -52,8 +52,8 @@ bare-table-spec =
     slice-aggregate-checked-2
     checked-requires
     enum-told
-    slice-aggregate-put-without-rows
-    put-without-rows-requires
+    slice-aggregate-substituted-without-rows
+    substituted-without-rows-requires
     enum-known-number
     returns
     returns-2)

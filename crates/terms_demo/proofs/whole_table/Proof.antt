@@ -1,6 +1,6 @@
 -- The tests run only where the check found the table sound.
 use native.Mathlib.Omega.{arith}
-use Rattle.terms_demo.proofs.InTable.{sound-rows}
+use Rattle.terms_demo.proofs.InTable.{faultless-rows}
 use borrow.Author.Needs.{needs}
 use Rattle.terms_demo.proofs.whole_table.Statement.{statement}
 use Rattle.terms_demo.proofs.whole_table.Tie as tie
@@ -30,7 +30,7 @@ slice-aggregate-write-tests : tie.Need-slice-aggregate-write-tests
 slice-aggregate-write-tests c = search needs
 
 write-tests-requires : tie.Need-write-tests-requires
-write-tests-requires c κs = sound-rows _ 43 _ (c .before .before .before .before .checked .ensures .0) (c .before .enum-told .given .1) (omega arith)
+write-tests-requires c κs = faultless-rows _ 43 _ (c .before .before .before .before .checked .ensures .0) (c .before .enum-told .given .1) (omega arith)
 
 enum-known-number : tie.Need-enum-known-number
 enum-known-number c = search needs

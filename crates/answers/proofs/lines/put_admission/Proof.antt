@@ -42,7 +42,13 @@ returns c = (c .put-refusal .ensures .0, same-text (ap admissionText (sym (c .be
 returns-2 : tie.Need-returns-2
 unfolding admissionText
 returns-2 c =
-    let line = whole-line (joined (c .before .before .before .before .before .before .before .before .before .put .ensures) (joined (c .before .before .before .before .before .before .before .put-number .ensures .0) (joined (c .before .before .before .before .before .put-number2 .ensures .0) (joined (c .before .before .before .put-number3 .ensures .0) (c .put2 .ensures))))) in (line .0, same-text (ap admissionText (sym (c .before .before .before .before .before .before .before .before .before .before .before .before .before .answer2 .given .1))) (line .1))
+    let c3 = c .before .before .before in
+    let c5 = c3 .before .before in
+    let c7 = c5 .before .before in
+    let c9 = c7 .before .before in
+    let rest = joined (c5 .put-number2 .ensures .0) (joined (c3 .put-number3 .ensures .0) (c .put2 .ensures)) in
+    let line = whole-line (joined (c9 .put .ensures) (joined (c7 .put-number .ensures .0) rest)) in
+    (line .0, same-text (ap admissionText (sym (c9 .before .before .before .before .answer2 .given .1))) (line .1))
 
 pub put-admission-spec : {M : Type 1} → statement M
 put-admission-spec =

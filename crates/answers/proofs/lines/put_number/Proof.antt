@@ -20,13 +20,27 @@ slice-aggregate-put-2 : tie.Need-slice-aggregate-put-2
 slice-aggregate-put-2 c = search needs
 
 put-requires-2 : tie.Need-put-requires-2
-put-requires-2 c κs = omega (arith, c .before .before .before .before .before .before .before .decimal .ensures .0 .1, c .before .before .before .before .put .ensures .place, c .before .before .before .before .put .ensures .whole, twenty _ (c .before .before .before .before .before .before .before .decimal .result) (c .before .before .before .before .before .before .before .before .before .before .fits .number .fits) (c .before .before .before .before .before .before .before .decimal .ensures .1 .0))
+put-requires-2 c κs =
+    let c4 = c .before .before .before .before in
+    let c7 = c4 .before .before .before in
+    omega (
+      arith,
+      c7 .decimal .ensures .0 .1,
+      c4 .put .ensures .place,
+      c4 .put .ensures .whole,
+      twenty _ (c7 .decimal .result) (c7 .before .before .before .fits .number .fits) (c7 .decimal .ensures .1 .0),
+    )
 
 same-length : tie.Need-same-length
 same-length c = search needs
 
 returns : tie.Need-returns
-returns c = number-put _ (c .before .before .before .before .before .before .before .before .before .before .decimal .result) (c .before .before .before .before .before .before .before .before .before .before .before .before .before .fits .number .fits) (c .before .before .before .before .before .before .before .before .before .before .decimal .ensures .1 .0) _ (c .before .before .before .before .before .before .before .before .before .before .decimal .ensures .0 .1) (c .before .before .before .before .before .before .before .before .before .before .decimal .ensures .1 .1) (c .before .before .before .before .before .before .before .put .ensures) (c .before .before .put2 .ensures)
+returns c =
+    let c7 = c .before .before .before .before .before .before .before in
+    let c10 = c7 .before .before .before in
+    let said = c10 .decimal .ensures in
+    number-put _ (c10 .decimal .result) (c10 .before .before .before .fits .number .fits) (said .1 .0) _ (said .0 .1)
+    (said .1 .1) (c7 .put .ensures) (c .before .before .put2 .ensures)
 
 pub put-number-spec : {M : Type 1} → statement M
 put-number-spec =

@@ -28,19 +28,32 @@ is-digit-requires : tie.Need-is-digit-requires Inv-loop μ-loop
 is-digit-requires c κs = search needs
 
 returns-2 : tie.Need-returns-2 Inv-loop μ-loop
-returns-2 c = not-read _ _ _ (c .before .before .before .before .loop .inv) (c .before .before .before .loop-test .taken) _ refl (sym (c .before .is-digit .ensures) ∙ not-true _ (c .if2 .taken))
+returns-2 c =
+    let c3 = c .before .before .before in
+    not-read _ _ _ (c3 .before .loop .inv) (c3 .loop-test .taken) _ refl
+    (sym (c .before .is-digit .ensures) ∙ not-true _ (c .if2 .taken))
 
 wide-requires : tie.Need-wide-requires Inv-loop μ-loop
 wide-requires c κs = search needs
 
 sub-digit : tie.Need-sub-digit Inv-loop μ-loop
-sub-digit c = omega (arith, c .wide .ensures, digit-range _ (sym (c .before .before .is-digit .ensures) ∙ not-false _ (c .before .if2 .left)))
+sub-digit c =
+    omega (
+      arith,
+      c .wide .ensures,
+      digit-range _ (sym (c .before .before .is-digit .ensures) ∙ not-false _ (c .before .if2 .left)),
+    )
 
 sub-if3 : tie.Need-sub-if3 Inv-loop μ-loop
 sub-if3 c = search needs
 
 returns-3 : tie.Need-returns-3 Inv-loop μ-loop
-returns-3 c = overflows _ _ _ (c .before .before .before .before .before .before .loop .inv) (c .before .before .before .before .before .loop-test .taken) _ refl (sym (c .before .before .before .is-digit .ensures) ∙ not-false _ (c .before .before .if2 .left)) _ (ap (λ d. d - 48) (c .before .wide .ensures)) (c .if3 .taken)
+returns-3 c =
+    let c3 = c .before .before .before in
+    let c6 = c3 .before .before .before in
+    overflows _ _ _ (c6 .loop .inv) (c3 .before .before .loop-test .taken) _ refl
+    (sym (c3 .is-digit .ensures) ∙ not-false _ (c .before .before .if2 .left)) _
+    (ap (λ d. d - 48) (c .before .wide .ensures)) (c .if3 .taken)
 
 mul-number : tie.Need-mul-number Inv-loop μ-loop
 mul-number c = omega (arith, c .if3 .left)
@@ -55,7 +68,12 @@ loop-less : tie.Need-loop-less Inv-loop μ-loop
 loop-less c = search needs
 
 loop-again : tie.Need-loop-again Inv-loop μ-loop
-loop-again c = goes-on _ _ _ (c .before .before .before .before .before .before .loop .inv) (c .before .before .before .before .before .loop-test .taken) _ refl (sym (c .before .before .before .is-digit .ensures) ∙ not-false _ (c .before .before .if2 .left)) _ (ap (λ d. d - 48) (c .before .wide .ensures)) (c .if3 .left)
+loop-again c =
+    let c3 = c .before .before .before in
+    let c6 = c3 .before .before .before in
+    goes-on _ _ _ (c6 .loop .inv) (c3 .before .before .loop-test .taken) _ refl
+    (sym (c3 .is-digit .ensures) ∙ not-false _ (c .before .before .if2 .left)) _
+    (ap (λ d. d - 48) (c .before .wide .ensures)) (c .if3 .left)
 
 returns-4 : tie.Need-returns-4 Inv-loop μ-loop
 returns-4 c = done _ _ _ (c .before .loop .inv) (c .loop-test .left)

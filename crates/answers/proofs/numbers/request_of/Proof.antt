@@ -31,7 +31,10 @@ enum-told-3 c = search needs
 
 returns-3 : tie.Need-returns-3
 unfolding requestOf
-returns-3 c = rw (c .before .before .before .before .before .before .form .given .1, c .before .before .before .context .given .1, c .enum-told3 .given .1, requestOf)
+returns-3 c =
+    let c3 = c .before .before .before in
+    let c6 = c3 .before .before .before in
+    rw (c6 .form .given .1, c3 .context .given .1, c .enum-told3 .given .1, requestOf)
 
 enum-known-s2 : tie.Need-enum-known-s2
 enum-known-s2 c = search needs
@@ -41,7 +44,11 @@ enum-told-4 c = search needs
 
 returns-4 : tie.Need-returns-4
 unfolding requestOf
-returns-4 c = rw (c .before .before .before .before .before .before .before .before .before .form .given .1, c .before .before .before .before .before .before .context .given .1, c .before .before .before .s1 .given .1, c .enum-told4 .given .1, requestOf)
+returns-4 c =
+    let c3 = c .before .before .before in
+    let c6 = c3 .before .before .before in
+    let c9 = c6 .before .before .before in
+    rw (c9 .form .given .1, c6 .context .given .1, c3 .s1 .given .1, c .enum-told4 .given .1, requestOf)
 
 enum-known-s3 : tie.Need-enum-known-s3
 enum-known-s3 c = search needs
@@ -51,11 +58,35 @@ enum-told-5 c = search needs
 
 returns-5 : tie.Need-returns-5
 unfolding requestOf
-returns-5 c = rw (c .before .before .before .before .before .before .before .before .before .before .before .before .form .given .1, c .before .before .before .before .before .before .before .before .before .context .given .1, c .before .before .before .before .before .before .s1 .given .1, c .before .before .before .s2 .given .1, c .enum-told5 .given .1, requestOf)
+returns-5 c =
+    let c3 = c .before .before .before in
+    let c6 = c3 .before .before .before in
+    let c9 = c6 .before .before .before in
+    let c12 = c9 .before .before .before in
+    rw (
+      c12 .form .given .1,
+      c9 .context .given .1,
+      c6 .s1 .given .1,
+      c3 .s2 .given .1,
+      c .enum-told5 .given .1,
+      requestOf,
+    )
 
 returns-6 : tie.Need-returns-6
 unfolding requestOf
-returns-6 c = rw (c .before .before .before .before .before .before .before .before .before .before .before .before .before .form .given .1, c .before .before .before .before .before .before .before .before .before .before .context .given .1, c .before .before .before .before .before .before .before .s1 .given .1, c .before .before .before .before .s2 .given .1, c .before .s3 .given .1, requestOf)
+returns-6 c =
+    let c3 = c .before .before .before in
+    let c6 = c3 .before .before .before in
+    let c9 = c6 .before .before .before in
+    let c12 = c9 .before .before .before in
+    rw (
+      c12 .before .form .given .1,
+      c9 .before .context .given .1,
+      c6 .before .s1 .given .1,
+      c3 .before .s2 .given .1,
+      c .before .s3 .given .1,
+      requestOf,
+    )
 
 pub request-of-spec : {M : Type 1} → statement M
 request-of-spec =

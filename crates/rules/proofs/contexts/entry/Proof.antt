@@ -10,7 +10,8 @@ use Rattle.rules.proofs.contexts.entry.Statement.{statement}
 use Rattle.rules.proofs.contexts.entry.Tie as tie
 
 abbrev Inv-loop : tie.InvT-loop
-Inv-loop contexts n x at₀ left₀ at left = NumberedContexts contexts (at ∷ []) × (entryOf contexts at left ≡ entryOf contexts n x)
+Inv-loop contexts n x at₀ left₀ at left =
+    NumberedContexts contexts (at ∷ []) × (entryOf contexts at left ≡ entryOf contexts n x)
 
 abbrev μ-loop : tie.MeasureT-loop
 μ-loop contexts n x at₀ left₀ at left = left
@@ -22,7 +23,10 @@ type-of-requires : tie.Need-type-of-requires Inv-loop μ-loop
 type-of-requires c κs = search needs
 
 returns : tie.Need-returns Inv-loop μ-loop
-returns c = ap At (c .type-of .ensures .0) ∙ found-here _ _ _ (c .before .before .loop-test .taken) (c .before .if1 .taken) ∙ c .before .before .before .loop .inv .1
+returns c =
+    let c3 = c .before .before .before in
+    ap At (c .type-of .ensures .0) ∙ found-here _ _ _ (c .before .before .loop-test .taken) (c .before .if1 .taken)
+    ∙ c3 .loop .inv .1
 
 parent-requires : tie.Need-parent-requires Inv-loop μ-loop
 parent-requires c κs = search needs
@@ -34,7 +38,13 @@ loop-less : tie.Need-loop-less Inv-loop μ-loop
 loop-less c = search needs
 
 loop-again : tie.Need-loop-again Inv-loop μ-loop
-loop-again c = (parent-numbered _ _ _ (c .before .before .before .loop .inv .0) (c .before .before .loop-test .taken) (c .parent .ensures .0), ap (λ p. entryOf (c .before .before .before .before .before .args .contexts .now) p (c .before .before .before .loop .left - 1)) (c .parent .ensures .0) ∙ found-further _ _ _ (c .before .before .loop-test .taken) (c .before .if1 .left) ∙ c .before .before .before .loop .inv .1)
+loop-again c =
+    let c3 = c .before .before .before in
+    let start = c3 .before .before in (
+      parent-numbered _ _ _ (c3 .loop .inv .0) (c .before .before .loop-test .taken) (c .parent .ensures .0),
+      ap (λ p. entryOf (start .args .contexts .now) p (c3 .loop .left - 1)) (c .parent .ensures .0)
+          ∙ found-further _ _ _ (c .before .before .loop-test .taken) (c .before .if1 .left) ∙ c3 .loop .inv .1,
+    )
 
 returns-2 : tie.Need-returns-2 Inv-loop μ-loop
 returns-2 c = found-none _ _ _ (c .loop-test .left) ∙ c .before .loop .inv .1

@@ -13,10 +13,16 @@ parent-requires : tie.Need-parent-requires
 parent-requires c κs = search needs
 
 extends-nat-requires : tie.Need-extends-nat-requires
-extends-nat-requires c κs = parent-given _ _ _ _ _ (c .before .before .before .before .before .pre .given) (c .before .before .if1 .left) (c .parent .ensures .0)
+extends-nat-requires c κs =
+    let start = c .before .before .before .before .before in
+    parent-given _ _ _ _ _ (start .pre .given) (c .before .before .if1 .left) (c .parent .ensures .0)
 
 returns-2 : tie.Need-returns-2
-returns-2 c = extends-then-says _ _ _ _ _ _ _ _ (c .before .before .before .before .before .before .pre) (c .before .before .before .if1 .left) (c .before .before .type-of .ensures .0) (c .before .parent .ensures .0) (c .extends-nat .ensures)
+returns-2 c =
+    let c3 = c .before .before .before in
+    let start = c3 .before .before .before in
+    extends-then-says _ _ _ _ _ _ _ _ (start .pre) (c3 .if1 .left) (c .before .before .type-of .ensures .0)
+    (c .before .parent .ensures .0) (c .extends-nat .ensures)
 
 pub extends-nat-then-spec : {M : Type 1} → statement M
 extends-nat-then-spec =

@@ -27,16 +27,22 @@ holds-requires : tie.Need-holds-requires Inv-loop μ-loop
 holds-requires c κs = search needs
 
 returns : tie.Need-returns Inv-loop μ-loop
-returns c = sym (some-repeated _ _ _ _ _ (omega arith) (omega arith) (sym (c .before .holds .ensures) ∙ c .if1 .taken))
+returns c =
+    sym (some-repeated _ _ _ _ _ (omega arith) (omega arith) (sym (c .before .holds .ensures) ∙ c .if1 .taken))
 
 loop-less : tie.Need-loop-less Inv-loop μ-loop
 loop-less c = search needs
 
 loop-again : tie.Need-loop-again Inv-loop μ-loop
-loop-again c = (search needs, repeated-next _ _ _ _ (c .before .before .before .loop .inv .1) (sym (c .before .holds .ensures) ∙ c .if1 .left))
+loop-again c =
+    let c3 = c .before .before .before in
+    (search needs, repeated-next _ _ _ _ (c3 .loop .inv .1) (sym (c .before .holds .ensures) ∙ c .if1 .left))
 
 returns-2 : tie.Need-returns-2 Inv-loop μ-loop
-returns-2 c = sym (c .before .loop .inv .1) ∙ ap (repeatedWithin (c .before .before .before .args .contexts .now) (c .before .before .before .args .above) (c .before .before .before .args .row)) (omega arith)
+returns-2 c =
+    let start = c .before .before .before in
+    sym (c .before .loop .inv .1)
+    ∙ ap (repeatedWithin (start .args .contexts .now) (start .args .above) (start .args .row)) (omega arith)
 
 pub repeated-spec : {M : Type 1} → statement M
 repeated-spec =

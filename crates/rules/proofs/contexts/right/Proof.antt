@@ -16,10 +16,14 @@ repeated-requires : tie.Need-repeated-requires
 repeated-requires c κs = search needs
 
 returns : tie.Need-returns
-returns c = right-rest _ _ _ _ _ (c .before .before .before .parent .ensures .0) (c .before .before .type-of .ensures .0) _ (c .before .if1 .taken) (c .repeated .ensures)
+returns c =
+    let c3 = c .before .before .before in
+    right-rest _ _ _ _ _ (c3 .parent .ensures .0) (c .before .before .type-of .ensures .0) _ (c .before .if1 .taken)
+    (c .repeated .ensures)
 
 returns-2 : tie.Need-returns-2
-returns-2 c = right-no _ _ _ _ _ (c .before .before .parent .ensures .0) (c .before .type-of .ensures .0) (c .if1 .left)
+returns-2 c =
+    right-no _ _ _ _ _ (c .before .before .parent .ensures .0) (c .before .type-of .ensures .0) (c .if1 .left)
 
 pub right-spec : {M : Type 1} → statement M
 right-spec =

@@ -3,52 +3,96 @@
 use mathlib.Core.Path.{_≡_, refl}
 use mathlib.Core.Logic.{_↔_}
 use mathlib.Core.List.{[], _∷_}
-use mathlib.Core.Bool.{_&&_}
 use Rattle.terms.specs.Term.{Term, first, second, sigma}
 use Rattle.terms.specs.Tag.{child}
 use Rattle.terms.specs.Substitution.{_⟨_⟩}
-use Rattle.terms.proofs.Tests.{decides-via, decides-both, decides-then, decides-not, given-of}
+use Rattle.terms.proofs.Tests.{decides-via, _&_, decides-then, decides-not, other-rows}
 use Rattle.rules.specs.Judgment.{Context, equal}
 use Rattle.rules.specs.Instance.{Instance}
-use Rattle.rules.specs.Stated.{judgmentOf}
+use Rattle.rules.specs.RuleChecks.{ruleSubjects, FollowsIn}
 use Rattle.rules.proofs.EqualityLaws.{rule-24}
 use native.Mathlib.Omega.{arith}
 use Rattle.rules.proofs.equality.e_pairext.Statement.{statement}
 use Rattle.rules.proofs.equality.e_pairext.Tie as tie
 
 -- the tests together are the rule
-agrees : {G : Context} {c₁ c₂ c₃ p₁ p₂ p₃ q₁ q₂ q₃ b : Term} → b ≡ child c₃ 2 → ((((((p₁ ≡ first c₁) × (p₂ ≡ first c₂)) × (q₁ ≡ second c₁)) × (q₂ ≡ second c₂)) × (c₃ ≡ sigma p₃ b)) × ((q₃ ≡ b ⟨ first c₁ ⟩))) ↔ Instance 24 (equal G p₁ p₂ p₃ ∷ equal G q₁ q₂ q₃ ∷ []) (equal G c₁ c₂ c₃)
+agrees : {G : Context} {c₁ c₂ c₃ p₁ p₂ p₃ q₁ q₂ q₃ b : Term} → b ≡ child c₃ 2
+    → ((((((p₁ ≡ first c₁) × (p₂ ≡ first c₂)) × (q₁ ≡ second c₁)) × (q₂ ≡ second c₂)) × (c₃ ≡ sigma p₃ b))
+    × (q₃ ≡ b ⟨ first c₁ ⟩))
+    ↔ Instance 24 (equal G p₁ p₂ p₃ ∷ equal G q₁ q₂ q₃ ∷ []) (equal G c₁ c₂ c₃)
 unfolding child
-agrees k₁ = (λ h. rule-24 .1 (refl, refl, cc, cc, cc, cc, cc, cc), λ i. let t = rule-24 .0 i in (((((cc, cc), cc), cc), cc), cc))
+agrees k₁ = (
+  λ h. rule-24 .1 (refl, refl, cc, cc, cc, cc, cc, cc),
+  λ i. let t = rule-24 .0 i in (((((cc, cc), cc), cc), cc), cc),
+)
 
 child-requires : tie.Need-child-requires
-child-requires c κs = (given-of _ _ _ (λ n h. (h .1 .1 .0, tt)) (c .before .pre), omega arith, omega arith)
+unfolding ruleSubjects
+child-requires c κs = (other-rows (λ n h. (omega (arith, h), tt)) (c .before .pre), omega arith, omega arith)
 
 is-node-requires : tie.Need-is-node-requires
-is-node-requires c κs = given-of _ _ _ (λ n h. (h .1 .1 .1 .0, (h .0, tt))) (c .before .before .pre)
+unfolding ruleSubjects
+is-node-requires c κs = other-rows (λ n h. (omega (arith, h), (omega (arith, h), tt))) (c .before .before .pre)
 
 is-node-requires-2 : tie.Need-is-node-requires-2
-is-node-requires-2 c κs = given-of _ _ _ (λ n h. (h .1 .1 .1 .1 .0, (h .1 .0, tt))) (c .before .before .before .pre)
+unfolding ruleSubjects
+is-node-requires-2 c κs =
+    let rows = c .before .before .before .pre in
+    other-rows (λ n h. (omega (arith, h), (omega (arith, h), tt))) rows
 
 is-node-requires-3 : tie.Need-is-node-requires-3
-is-node-requires-3 c κs = given-of _ _ _ (λ n h. (h .1 .1 .1 .1 .1 .1 .0, (h .0, tt))) (c .before .before .before .before .pre)
+unfolding ruleSubjects
+is-node-requires-3 c κs =
+    let rows = c .before .before .before .before .pre in
+    other-rows (λ n h. (omega (arith, h), (omega (arith, h), tt))) rows
 
 is-node-requires-4 : tie.Need-is-node-requires-4
-is-node-requires-4 c κs = given-of _ _ _ (λ n h. (h .1 .1 .1 .1 .1 .1 .1 .0, (h .1 .0, tt))) (c .before .before .before .before .before .pre)
+unfolding ruleSubjects
+is-node-requires-4 c κs =
+    let rows = c .before .before .before .before .before .pre in
+    other-rows (λ n h. (omega (arith, h), (omega (arith, h), tt))) rows
 
 is-node-requires-5 : tie.Need-is-node-requires-5
-is-node-requires-5 c κs = given-of _ _ _ (λ n h. (h .1 .1 .0, (h .1 .1 .1 .1 .1 .0, ((omega (arith, c .before .before .before .before .child .ensures .1, h .1 .1 .0)), tt)))) (c .before .before .before .before .before .before .pre)
+unfolding ruleSubjects
+is-node-requires-5 c κs =
+    let rows = c .before .before .before .before .before .before .pre in
+    let c3 = c .before .before .before in
+    other-rows (λ n h. (omega (arith, h), (omega (arith, h), (omega (arith, h, c3 .before .child .ensures .1), tt)))) rows
 
 is-substituted-requires : tie.Need-is-substituted-requires
-is-substituted-requires c κs = (given-of _ _ _ (λ n h. ((omega (arith, c .before .before .before .before .before .before .child .ensures .1, h .1 .1 .0)), (h .1 .1 .1 .1 .1 .1 .1 .1 .0, (h .0, tt)))) (c .before .before .before .before .before .before .before .before .pre), omega (arith, c .before .before .before .before .before .before .before .before .pre .few, c .before .before .before .before .before .before .child .ensures .1, c .before .before .before .before .before .before .before .before .pre .below .1 .1 .0))
+unfolding ruleSubjects
+is-substituted-requires c κs =
+    let rows = c .before .before .before .before .before .before .before .before .pre in
+    let c6 = c .before .before .before .before .before .before in (
+      other-rows (λ n h. (omega (arith, h, c6 .child .ensures .1), (omega (arith, h), (omega (arith, h), tt)))) rows,
+      omega (arith, rows .below, rows .few, c6 .child .ensures .1),
+    )
 
 returns : tie.Need-returns
-unfolding judgmentOf _⟨_⟩
-returns c = λ G. decides-via _ (agrees (c .before .before .before .before .before .before .before .child .ensures .0)) (decides-then ((c .before .before .before .before .before .before .is-node .result) && (c .before .before .before .before .before .is-node2 .result) && (c .before .before .before .before .is-node3 .result) && (c .before .before .before .is-node4 .result) && (c .before .before .is-node5 .result)) (c .is-substituted .result) (decides-both ((c .before .before .before .before .before .before .is-node .result) && (c .before .before .before .before .before .is-node2 .result) && (c .before .before .before .before .is-node3 .result) && (c .before .before .before .is-node4 .result)) (c .before .before .is-node5 .result) (decides-both ((c .before .before .before .before .before .before .is-node .result) && (c .before .before .before .before .before .is-node2 .result) && (c .before .before .before .before .is-node3 .result)) (c .before .before .before .is-node4 .result) (decides-both ((c .before .before .before .before .before .before .is-node .result) && (c .before .before .before .before .before .is-node2 .result)) (c .before .before .before .before .is-node3 .result) (decides-both (c .before .before .before .before .before .before .is-node .result) (c .before .before .before .before .before .is-node2 .result) (c .before .before .before .before .before .before .is-node .ensures) (c .before .before .before .before .before .is-node2 .ensures)) (c .before .before .before .before .is-node3 .ensures)) (c .before .before .before .is-node4 .ensures)) (c .before .before .is-node5 .ensures)) (c .before .if1 .taken) (c .is-substituted .ensures))
+unfolding FollowsIn _⟨_⟩
+returns c =
+    let c3 = c .before .before .before in
+    let c6 = c3 .before .before .before in
+    λ contexts G. decides-via (agrees (c6 .before .child .ensures .0))
+    (decides-then
+    (c6 .is-node .ensures & c3 .before .before .is-node2 .ensures & c3 .before .is-node3 .ensures
+    & c3 .is-node4 .ensures & c .before .before .is-node5 .ensures)
+    (c .before .if1 .taken)
+    (c .is-substituted .ensures))
 
 returns-2 : tie.Need-returns-2
-unfolding judgmentOf _⟨_⟩
-returns-2 c = λ G. decides-via _ (agrees (c .before .before .before .before .before .before .child .ensures .0)) (decides-not ((c .before .before .before .before .before .is-node .result) && (c .before .before .before .before .is-node2 .result) && (c .before .before .before .is-node3 .result) && (c .before .before .is-node4 .result) && (c .before .is-node5 .result)) (decides-both ((c .before .before .before .before .before .is-node .result) && (c .before .before .before .before .is-node2 .result) && (c .before .before .before .is-node3 .result) && (c .before .before .is-node4 .result)) (c .before .is-node5 .result) (decides-both ((c .before .before .before .before .before .is-node .result) && (c .before .before .before .before .is-node2 .result) && (c .before .before .before .is-node3 .result)) (c .before .before .is-node4 .result) (decides-both ((c .before .before .before .before .before .is-node .result) && (c .before .before .before .before .is-node2 .result)) (c .before .before .before .is-node3 .result) (decides-both (c .before .before .before .before .before .is-node .result) (c .before .before .before .before .is-node2 .result) (c .before .before .before .before .before .is-node .ensures) (c .before .before .before .before .is-node2 .ensures)) (c .before .before .before .is-node3 .ensures)) (c .before .before .is-node4 .ensures)) (c .before .is-node5 .ensures)) (c .if1 .left))
+unfolding FollowsIn _⟨_⟩
+returns-2 c =
+    let c3 = c .before .before .before in
+    let c6 = c3 .before .before .before in
+    λ contexts G. decides-via (agrees (c6 .child .ensures .0))
+    (decides-not
+    (c3 .before .before .is-node .ensures & c3 .before .is-node2 .ensures & c3 .is-node3 .ensures
+    & c .before .before .is-node4 .ensures & c .before .is-node5 .ensures)
+    (c .if1 .left))
 
 pub e-pairext-spec : {M : Type 1} → statement M
-e-pairext-spec = tie.close (tie.spec child-requires is-node-requires is-node-requires-2 is-node-requires-3 is-node-requires-4 is-node-requires-5 is-substituted-requires returns returns-2)
+e-pairext-spec =
+    tie.close
+    (tie.spec child-requires is-node-requires is-node-requires-2 is-node-requires-3 is-node-requires-4
+    is-node-requires-5 is-substituted-requires returns returns-2)

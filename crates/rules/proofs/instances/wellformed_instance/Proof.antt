@@ -1,33 +1,38 @@
 -- Each arm is decided by its rule's own check; the last is never taken.
 -- Assumes nothing.
-use mathlib.Core.List.{[], _∷_}
 use native.Mathlib.Omega.{arith}
-use Rattle.rules.specs.RuleTable.{premiseCount, premiseForm, addedEntries, formOf, countedFrom}
-use Rattle.rules.specs.Stated.{judgmentOf, usedPremises, placedFrom, FollowsPlaced}
-use Rattle.rules.proofs.ArmLaws.{usedSubjects, subjectsFrom, armSubjects, armContexts, by-arm, given-arm}
+use Rattle.rules.specs.RuleTable.{premiseCount}
+use Rattle.rules.specs.Stated.{usedPremises}
+use Rattle.rules.specs.RuleChecks.{ruleSubjects}
 use Rattle.rules.proofs.ContextTableAnswers.{rows-of}
-use Rattle.rules.proofs.MissedLaws.{missed}
+use Rattle.rules.proofs.ArmLaws.{by-arm, given-arm}
+use Rattle.rules.proofs.RangeLaws.{none-from}
 use Rattle.rules.proofs.instances.wellformed_instance.Statement.{statement}
 use Rattle.rules.proofs.instances.wellformed_instance.Tie as tie
 
 wf-nil-requires : tie.Need-wf-nil-requires
-unfolding armContexts armSubjects subjectsFrom usedSubjects usedPremises premiseCount premiseForm formOf
-wf-nil-requires c κs = given-arm _ _ _ (c .before .before .before .args .p ∷ c .before .before .before .args .q ∷ c .before .before .before .args .r ∷ c .before .before .before .args .s ∷ []) _ (c .before .before .before .pre .0) (c .before .before .before .pre .1) 1 (c .match .keys1)
+unfolding usedPremises premiseCount
+wf-nil-requires c κs = given-arm (c .before .before .before .pre) (c .match .keys1)
 
 wf-cons-requires : tie.Need-wf-cons-requires
-unfolding armContexts armSubjects subjectsFrom usedSubjects usedPremises premiseCount premiseForm formOf
-wf-cons-requires c κs = rows-of _ _ (given-arm _ _ _ (c .before .before .before .args .p ∷ c .before .before .before .args .q ∷ c .before .before .before .args .r ∷ c .before .before .before .args .s ∷ []) _ (c .before .before .before .pre .0) (c .before .before .before .pre .1) 2 (c .match .keys2)) _ _ ((given-arm _ _ _ (c .before .before .before .args .p ∷ c .before .before .before .args .q ∷ c .before .before .before .args .r ∷ c .before .before .before .args .s ∷ []) _ (c .before .before .before .pre .0) (c .before .before .before .pre .1) 2 (c .match .keys2)) .given .within .0, tt) ((given-arm _ _ _ (c .before .before .before .args .p ∷ c .before .before .before .args .q ∷ c .before .before .before .args .r ∷ c .before .before .before .args .s ∷ []) _ (c .before .before .before .pre .0) (c .before .before .before .pre .1) 2 (c .match .keys2)) .below .0, ((given-arm _ _ _ (c .before .before .before .args .p ∷ c .before .before .before .args .q ∷ c .before .before .before .args .r ∷ c .before .before .before .args .s ∷ []) _ (c .before .before .before .pre .0) (c .before .before .before .pre .1) 2 (c .match .keys2)) .below .1 .0, tt))
+unfolding usedPremises premiseCount ruleSubjects
+wf-cons-requires c κs =
+    let line = c .before .before .before .pre in
+    let rows = given-arm line (c .match .keys2) in
+    rows-of rows (rows .given .within .0, tt) (rows .below)
 
 returns : tie.Need-returns
-unfolding FollowsPlaced placedFrom usedPremises judgmentOf premiseCount premiseForm addedEntries countedFrom formOf
-returns c = by-arm _ _ _ (c .before .before .before .before .args .p ∷ c .before .before .before .before .args .q ∷ c .before .before .before .before .args .r ∷ c .before .before .before .before .args .s ∷ []) _ (c .before .before .before .before .pre .0) (c .before .before .before .before .pre .1) 1 (c .before .match .keys1) _ (c .wf-nil .ensures)
+unfolding usedPremises premiseCount
+returns c = by-arm (c .before .before .before .before .pre) (c .before .match .keys1) (c .wf-nil .ensures)
 
 returns-2 : tie.Need-returns-2
-unfolding FollowsPlaced placedFrom usedPremises judgmentOf premiseCount premiseForm addedEntries countedFrom formOf
-returns-2 c = by-arm _ _ _ (c .before .before .before .before .args .p ∷ c .before .before .before .before .args .q ∷ c .before .before .before .before .args .r ∷ c .before .before .before .before .args .s ∷ []) _ (c .before .before .before .before .pre .0) (c .before .before .before .before .pre .1) 2 (c .before .match .keys2) _ (c .wf-cons .ensures)
+unfolding usedPremises premiseCount
+returns-2 c = by-arm (c .before .before .before .before .pre) (c .before .match .keys2) (c .wf-cons .ensures _)
 
 returns-3 : tie.Need-returns-3
-returns-3 c = absurd (missed 1 2 _ (c .match .rest) (c .before .before .before .pre .2) (omega (arith, c .before .before .before .pre .3)))
+returns-3 c =
+    let line = c .before .before .before .pre in
+    absurd (none-from 1 2 _ (c .match .rest) (line .1 .1 .0) (omega (arith, line .1 .1)))
 
 pub wellformed-instance-spec : {M : Type 1} → statement M
 wellformed-instance-spec =

@@ -13,7 +13,9 @@ parent-requires : tie.Need-parent-requires
 parent-requires c κs = search needs
 
 returns-3 : tie.Need-returns-3
-returns-3 c = counted-parent _ _ _ _ (c .before .before .if1 .left) _ (c .before .before .before .before .before .pre) (c .before .if2 .left) (c .parent .ensures .0)
+returns-3 c =
+    counted-parent _ _ _ _ (c .before .before .if1 .left) _ (c .before .before .before .before .before .pre)
+    (c .before .if2 .left) (c .parent .ensures .0)
 
 pub counted-from-spec : {M : Type 1} → statement M
 counted-from-spec = tie.close (tie.spec returns returns-2 parent-requires returns-3)

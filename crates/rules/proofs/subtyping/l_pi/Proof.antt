@@ -3,13 +3,12 @@
 use mathlib.Core.Path.{_≡_, refl}
 use mathlib.Core.Logic.{_↔_, _⊎_}
 use mathlib.Core.List.{[], _∷_}
-use mathlib.Core.Bool.{Bool, _&&_, _||_}
 use native.Mathlib.Omega.{arith}
 use Rattle.terms.specs.Term.{Term, pi}
-use Rattle.terms.proofs.Tests.{decides-via, decides-both, decides-either, given-of}
+use Rattle.terms.proofs.Tests.{decides-via, _&_, decides-either, other-rows}
 use Rattle.rules.specs.Judgment.{Context, sub}
 use Rattle.rules.specs.Instance.{Instance}
-use Rattle.rules.specs.Stated.{judgmentOf}
+use Rattle.rules.specs.RuleChecks.{ruleSubjects, FollowsIn}
 use Rattle.rules.proofs.SubtypingLaws.{rule-38}
 use Rattle.rules.proofs.ContextTableAnswers.{rows-known, rows-of}
 use Rattle.rules.proofs.subtyping.l_pi.Statement.{statement}
@@ -22,36 +21,37 @@ agrees : {G G₁ : Context} {c₁ c₂ p₁ p₂ q₁ q₂ : Term}
 agrees = (λ h. rule-38 .1 (refl, h .0 .0, h .0 .1, h .1), λ i. let t = rule-38 .0 i in ((t .1, t .2), t .3))
 
 extends-requires : tie.Need-extends-requires
+unfolding ruleSubjects
 extends-requires c κs =
-    let rows = c .before .before .pre in
-    rows-of _ _ rows _ _ (rows .given .within .1 .1 .0, (rows .given .within .0, tt)) (omega (arith, rows .below), tt)
+    let rows = c .before .before .pre in rows-of rows
+    (rows .given .within .1 .1 .0, (rows .given .within .0, tt)) (omega (arith, rows .below), tt)
 
 extends-requires-2 : tie.Need-extends-requires-2
+unfolding ruleSubjects
 extends-requires-2 c κs =
-    let rows = c .before .before .before .pre in
-    rows-of _ _ rows _ _ (rows .given .within .1 .1 .0, (rows .given .within .0, tt)) (omega (arith, rows .below), tt)
+    let c3 = c .before .before .before in
+    let rows = c3 .pre in rows-of rows
+    (rows .given .within .1 .1 .0, (rows .given .within .0, tt)) (omega (arith, rows .below), tt)
 
 is-node-requires : tie.Need-is-node-requires
+unfolding ruleSubjects
 is-node-requires c κs =
     let rows = c .before .before .before .before .pre in
-    given-of _ _ _ (λ n h. (h .0, (omega (arith, h), (h .1 .1 .1 .1 .0, tt)))) (rows-known _ _ rows)
+    other-rows (λ n h. (omega (arith, h), (omega (arith, h), (omega (arith, h), tt)))) (rows-known rows)
 
 is-node-requires-2 : tie.Need-is-node-requires-2
+unfolding ruleSubjects
 is-node-requires-2 c κs =
     let rows = c .before .before .before .before .before .pre in
-    given-of _ _ _ (λ n h. (h .1 .0, (omega (arith, h), (h .1 .1 .1 .1 .1 .0, tt)))) (rows-known _ _ rows)
+    other-rows (λ n h. (omega (arith, h), (omega (arith, h), (omega (arith, h), tt)))) (rows-known rows)
 
 returns : tie.Need-returns
-unfolding judgmentOf
+unfolding FollowsIn
 returns c =
-    let under : Bool = c .before .before .before .extends .result || c .before .before .extends2 .result in
-    let left : Bool = c .before .is-node .result in
-    decides-via _ agrees
-    (decides-both (under && left) (c .is-node2 .result)
-    (decides-both under left
-    (decides-either _ _ (c .before .before .before .extends .ensures) (c .before .before .extends2 .ensures))
-    (c .before .is-node .ensures))
-    (c .is-node2 .ensures))
+    let c3 = c .before .before .before in
+    decides-via agrees
+    (decides-either (c3 .extends .ensures) (c .before .before .extends2 .ensures) & c .before .is-node .ensures
+    & c .is-node2 .ensures)
 
 pub l-pi-spec : {M : Type 1} → statement M
 l-pi-spec = tie.close (tie.spec extends-requires extends-requires-2 is-node-requires is-node-requires-2 returns)

@@ -13,7 +13,7 @@ returns : tie.Need-returns
 unfolding ruleRow
 returns c =
     let e = ap (λ r. r .count) (c .rule-row .ensures) in
-    (e, subst (λ n. n ≤ 4) (sym e) (row-agrees (c .before .args .rule) (search needs) (search needs) .count))
+    (e, subst (λ n. n ≤ 4) (sym e) (row-agrees (c .before .args .rule) (c .before .pre) .count))
 
 pub premise-count-spec : {M : Type 1} → statement M
 premise-count-spec = tie.close (tie.spec rule-row-requires returns)

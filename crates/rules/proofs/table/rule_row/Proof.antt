@@ -43,7 +43,12 @@ unfolding ruleTable
 table-at-requires-9 c κs = (refl, search needs)
 
 returns : tie.Need-returns
-returns c = row-is _ (c .before .before .before .before .before .before .before .before .table-at .ensures) (c .before .before .before .before .before .before .before .table-at2 .ensures) (c .before .before .before .before .before .before .table-at3 .ensures) (c .before .before .before .before .before .table-at4 .ensures) (c .before .before .before .before .table-at5 .ensures) (c .before .before .before .table-at6 .ensures) (c .before .before .table-at7 .ensures) (c .before .table-at8 .ensures) (c .table-at9 .ensures)
+returns c =
+    let c3 = c .before .before .before in
+    let c6 = c3 .before .before .before in
+    row-is _ (c6 .before .before .table-at .ensures) (c6 .before .table-at2 .ensures) (c6 .table-at3 .ensures)
+    (c3 .before .before .table-at4 .ensures) (c3 .before .table-at5 .ensures) (c3 .table-at6 .ensures)
+    (c .before .before .table-at7 .ensures) (c .before .table-at8 .ensures) (c .table-at9 .ensures)
 
 pub rule-row-spec : {M : Type 1} → statement M
 rule-row-spec =

@@ -20,10 +20,14 @@ element-copy-out-result : tie.Need-element-copy-out-result
 element-copy-out-result c = search needs
 
 cast-result : tie.Need-cast-result
-cast-result c = let k = 10 * (c .before .args .rule - 1) + c .before .args .column in omega (arith, table-most k, ap (λ t. getD t k 0) (c .before .pre .0))
+cast-result c =
+    let k = 10 * (c .before .args .rule - 1) + c .before .args .column in
+    omega (arith, table-most k, ap (λ t. getD t k 0) (c .before .pre .0))
 
 returns : tie.Need-returns
-returns c = ap (λ t. getD t (10 * (c .before .args .rule - 1) + c .before .args .column) 0) (c .before .pre .0) ∙ table-entry (c .before .args .rule) (c .before .args .column) (search needs) (search needs) (search needs)
+returns c =
+    ap (λ t. getD t (10 * (c .before .args .rule - 1) + c .before .args .column) 0) (c .before .pre .0)
+    ∙ table-entry (c .before .args .rule) (c .before .args .column) (c .before .pre .1 .0) (c .before .pre .1 .1)
 
 pub table-at-spec : {M : Type 1} → statement M
 table-at-spec =

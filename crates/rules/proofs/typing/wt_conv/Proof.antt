@@ -3,34 +3,41 @@
 use mathlib.Core.Path.{_≡_, refl}
 use mathlib.Core.Logic.{_↔_}
 use mathlib.Core.List.{[], _∷_}
-use mathlib.Core.Bool.{_&&_}
+use native.Mathlib.Omega.{arith}
 use Rattle.terms.specs.Term.{Term}
-use Rattle.terms.specs.Tag.{child}
-use Rattle.terms.proofs.Tests.{decides-via, decides-both, given-of}
+use Rattle.terms.proofs.Tests.{decides-via, _&_, other-rows}
 use Rattle.rules.specs.Judgment.{Context, typed, sub}
 use Rattle.rules.specs.Instance.{Instance}
-use Rattle.rules.specs.Stated.{judgmentOf}
+use Rattle.rules.specs.RuleChecks.{ruleSubjects, FollowsIn}
 use Rattle.rules.proofs.TypingLaws.{rule-16}
 use Rattle.rules.proofs.typing.wt_conv.Statement.{statement}
 use Rattle.rules.proofs.typing.wt_conv.Tie as tie
 
 -- the tests together are the rule
-agrees : {G : Context} {c₁ c₃ p₁ p₃ q₁ q₂ : Term} → (((c₁ ≡ p₁) × (q₁ ≡ p₃)) × (c₃ ≡ q₂)) ↔ Instance 16 (typed G p₁ p₃ ∷ sub G q₁ q₂ ∷ []) (typed G c₁ c₃)
-unfolding child
+agrees : {G : Context} {c₁ c₃ p₁ p₃ q₁ q₂ : Term}
+    → (((c₁ ≡ p₁) × (q₁ ≡ p₃)) × (c₃ ≡ q₂))
+    ↔ Instance 16 (typed G p₁ p₃ ∷ sub G q₁ q₂ ∷ []) (typed G c₁ c₃)
 agrees = (λ h. rule-16 .1 (refl, refl, cc, cc, cc), λ i. let t = rule-16 .0 i in ((cc, cc), cc))
 
 same-term-requires : tie.Need-same-term-requires
-same-term-requires c κs = given-of _ _ _ (λ n h. (h .0, (h .1 .1 .0, tt))) (c .before .pre)
+unfolding ruleSubjects
+same-term-requires c κs = other-rows (λ n h. (omega (arith, h), (omega (arith, h), tt))) (c .before .pre)
 
 same-term-requires-2 : tie.Need-same-term-requires-2
-same-term-requires-2 c κs = given-of _ _ _ (λ n h. (h .1 .1 .1 .1 .0, (h .1 .1 .1 .0, tt))) (c .before .before .pre)
+unfolding ruleSubjects
+same-term-requires-2 c κs = other-rows (λ n h. (omega (arith, h), (omega (arith, h), tt))) (c .before .before .pre)
 
 same-term-requires-3 : tie.Need-same-term-requires-3
-same-term-requires-3 c κs = given-of _ _ _ (λ n h. (h .1 .0, (h .1 .1 .1 .1 .1 .0, tt))) (c .before .before .before .pre)
+unfolding ruleSubjects
+same-term-requires-3 c κs =
+    let rows = c .before .before .before .pre in
+    other-rows (λ n h. (omega (arith, h), (omega (arith, h), tt))) rows
 
 returns : tie.Need-returns
-unfolding judgmentOf
-returns c = λ G. decides-via _ (agrees) (decides-both ((c .before .before .same-term .result) && (c .before .same-term2 .result)) (c .same-term3 .result) (decides-both (c .before .before .same-term .result) (c .before .same-term2 .result) (c .before .before .same-term .ensures) (c .before .same-term2 .ensures)) (c .same-term3 .ensures))
+unfolding FollowsIn
+returns c =
+    λ contexts G. decides-via agrees
+    (c .before .before .same-term .ensures & c .before .same-term2 .ensures & c .same-term3 .ensures)
 
 pub wt-conv-spec : {M : Type 1} → statement M
 wt-conv-spec = tie.close (tie.spec same-term-requires same-term-requires-2 same-term-requires-3 returns)

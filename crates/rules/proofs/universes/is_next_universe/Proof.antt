@@ -1,5 +1,5 @@
 -- The level is the number that the row gives.
-use Rattle.terms.proofs.Tests.{decides-via, decides-both}
+use Rattle.terms.proofs.Tests.{decides-via, _&_}
 use Rattle.rules.proofs.UniverseLaws.{next-level}
 use borrow.Author.Needs.{needs}
 use Rattle.rules.proofs.universes.is_next_universe.Statement.{statement}
@@ -18,7 +18,9 @@ is-node-requires-2 : tie.Need-is-node-requires-2
 is-node-requires-2 c κs = search needs
 
 returns : tie.Need-returns
-returns c = decides-via _ (next-level _ _ _ (c .before .before .number .ensures .0)) (decides-both (c .before .is-node .result) (c .is-node2 .result) (c .before .is-node .ensures) (c .is-node2 .ensures))
+returns c =
+    decides-via (next-level _ _ _ (c .before .before .number .ensures .0))
+    (c .before .is-node .ensures & c .is-node2 .ensures)
 
 pub is-next-universe-spec : {M : Type 1} → statement M
 is-next-universe-spec =

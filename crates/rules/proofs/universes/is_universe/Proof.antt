@@ -12,7 +12,7 @@ is-node-requires : tie.Need-is-node-requires
 is-node-requires c κs = search needs
 
 returns : tie.Need-returns
-returns c = decides-via _ (universe-level _ _ (c .before .number .ensures .0)) (c .is-node .ensures)
+returns c = decides-via (universe-level _ _ (c .before .number .ensures .0)) (c .is-node .ensures)
 
 pub is-universe-spec : {M : Type 1} → statement M
 is-universe-spec = tie.close (tie.spec number-requires is-node-requires returns)

@@ -3,7 +3,7 @@
 use mathlib.Core.List.{[], _∷_}
 use borrow.Author.Needs.{needs}
 use Rattle.terms.proofs.Tests.{refuted}
-use Rattle.rules_demo.proofs.CaseLaws.{case-cited}
+use Rattle.rules_demo.proofs.CaseLaws.{case-in-tables}
 use Rattle.rules_demo.proofs.cases.answer_to.Statement.{statement}
 use Rattle.rules_demo.proofs.cases.answer_to.Tie as tie
 
@@ -11,16 +11,19 @@ is-case-requires : tie.Need-is-case-requires
 is-case-requires c κs = search needs
 
 is-instance-requires : tie.Need-is-instance-requires
-is-instance-requires c κs = case-cited _ _ _ _ _ (c .before .before .before .before .args .p ∷ c .before .before .before .before .args .q ∷ c .before .before .before .before .args .r ∷ c .before .before .before .before .args .s ∷ []) _ (c .before .before .before .before .pre) (c .before .is-case .ensures .0 (c .if1 .taken))
+is-instance-requires c κs =
+    let start = c .before .before .before .before in
+    case-in-tables _ _ _ _ _ (start .args .p ∷ start .args .q ∷ start .args .r ∷ start .args .s ∷ []) _ (start .pre)
+    (c .before .is-case .ensures .0 (c .if1 .taken))
 
 returns : tie.Need-returns
 returns c = (c .before .before .before .is-case .ensures .0 (c .before .before .if1 .taken), c .before .is-instance .ensures .0 (c .if2 .taken))
 
 returns-2 : tie.Need-returns-2
-returns-2 c = (c .before .before .before .is-case .ensures .0 (c .before .before .if1 .taken), refuted _ (c .before .is-instance .ensures) (c .if2 .left))
+returns-2 c = (c .before .before .before .is-case .ensures .0 (c .before .before .if1 .taken), refuted (c .before .is-instance .ensures) (c .if2 .left))
 
 returns-3 : tie.Need-returns-3
-returns-3 c = refuted _ (c .before .is-case .ensures) (c .if1 .left)
+returns-3 c = refuted (c .before .is-case .ensures) (c .if1 .left)
 
 pub answer-to-spec : {M : Type 1} → statement M
 answer-to-spec =

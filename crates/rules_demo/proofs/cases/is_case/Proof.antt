@@ -5,6 +5,9 @@ use Rattle.rules_demo.proofs.CaseLaws.{case-says}
 use Rattle.rules_demo.proofs.cases.is_case.Statement.{statement}
 use Rattle.rules_demo.proofs.cases.is_case.Tie as tie
 
+is-rule-requires : tie.Need-is-rule-requires
+is-rule-requires c κs = search needs
+
 conclusion-form-requires : tie.Need-conclusion-form-requires
 conclusion-form-requires c κs = search needs
 
@@ -24,12 +27,20 @@ is-numbered-requires-5 : tie.Need-is-numbered-requires-5
 is-numbered-requires-5 c κs = search needs
 
 returns : tie.Need-returns
-returns c = case-says (c .before .before .before .before .before .before .before .args .t) (c .before .before .before .before .before .before .before .args .n) (c .before .before .before .before .before .before .before .args .rule) (c .before .before .before .before .before .before .conclusion-form .result) (c .before .before .before .before .before .before .before .args .c) (c .before .before .before .before .before .before .before .args .p) (c .before .before .before .before .before .before .before .args .q) (c .before .before .before .before .before .before .before .args .r) (c .before .before .before .before .before .before .before .args .s) _ _ _ _ _ (c .before .before .before .before .before .before .conclusion-form .ensures) (c .before .before .before .before .is-numbered .ensures) (c .before .before .before .is-numbered2 .ensures) (c .before .before .is-numbered3 .ensures) (c .before .is-numbered4 .ensures) (c .is-numbered5 .ensures)
+returns c =
+    let c3 = c .before .before .before in
+    let c6 = c3 .before .before .before in
+    let start = c6 .before .before in
+    case-says (start .args .t) (start .args .n) (start .args .rule) _ (start .args .c) (start .args .p) (start .args .q)
+    (start .args .r) (start .args .s) (c6 .before .is-rule .ensures) (c6 .conclusion-form .ensures)
+    (c3 .before .is-numbered .ensures) (c3 .is-numbered2 .ensures) (c .before .before .is-numbered3 .ensures)
+    (c .before .is-numbered4 .ensures) (c .is-numbered5 .ensures)
 
 pub is-case-spec : {M : Type 1} → statement M
 is-case-spec =
     tie.close
     (tie.spec
+    is-rule-requires
     conclusion-form-requires
     is-numbered-requires
     is-numbered-requires-2

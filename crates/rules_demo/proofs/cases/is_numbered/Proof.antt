@@ -1,11 +1,18 @@
 -- The five tests together are `Numbered`.
 -- Assumes nothing.
+use borrow.Author.Needs.{needs}
 use Rattle.rules_demo.proofs.CaseLaws.{numbered-says}
 use Rattle.rules_demo.proofs.cases.is_numbered.Statement.{statement}
 use Rattle.rules_demo.proofs.cases.is_numbered.Tie as tie
 
+subject-use-requires : tie.Need-subject-use-requires
+subject-use-requires c κs = search needs
+
 returns : tie.Need-returns
-returns c = numbered-says (c .before .before .before .before .args .t) (c .before .before .before .before .args .n) (c .before .before .before .before .args .j)
+returns c =
+    let c8 = c .before .before .before .before .before .before .before .before in
+    let start = c8 .before in
+    numbered-says (start .args .t) (start .args .n) (start .args .j) _ (c8 .subject-use .ensures)
 
 pub is-numbered-spec : {M : Type 1} → statement M
-is-numbered-spec = tie.close (tie.spec returns)
+is-numbered-spec = tie.close (tie.spec subject-use-requires returns)

@@ -1,7 +1,7 @@
 -- Each way out by the law of the check that took it.
 -- Assumes nothing.
 use borrow.Author.Needs.{needs}
-use Rattle.rules_demo.proofs.CaseLaws.{many-terms, many-contexts, faulty-terms, faulty-contexts, sound-tables}
+use Rattle.rules_demo.proofs.CaseLaws.{many-terms, many-contexts, faulty-terms, faulty-contexts, faultless-tables}
 use Rattle.rules_demo.proofs.tables.are_sound.Statement.{statement}
 use Rattle.rules_demo.proofs.tables.are_sound.Tie as tie
 
@@ -24,7 +24,10 @@ enum-told-2 : tie.Need-enum-told-2
 enum-told-2 c = search needs
 
 returns-3 : tie.Need-returns-3
-returns-3 c = faulty-terms _ _ _ _ (c .before .before .before .before .before .before .before .before .before .pre .0) _ (c .before .before .before .check-terms .ensures .0) _ _ (c .enum-told2 .given .1)
+returns-3 c =
+    let c3 = c .before .before .before in
+    let start = c3 .before .before .before .before .before .before in
+    faulty-terms _ _ _ _ (start .pre .0) _ (c3 .check-terms .ensures .0) _ _ (c .enum-told2 .given .1)
 
 check-contexts-requires : tie.Need-check-contexts-requires
 check-contexts-requires c κs = search needs
@@ -36,10 +39,21 @@ enum-told-4 : tie.Need-enum-told-4
 enum-told-4 c = search needs
 
 returns-4 : tie.Need-returns-4
-returns-4 c = faulty-contexts _ _ _ _ (c .before .before .before .before .before .before .before .before .before .before .before .before .pre .0) _ (c .before .before .before .before .before .before .check-terms .ensures .0) (c .before .before .before .before .before .before .before .before .before .before .before .before .pre .1) _ (c .before .before .check-contexts .ensures) _ (c .enum-told4 .given .1)
+returns-4 c =
+    let c6 = c .before .before .before .before .before .before in
+    let start = c6 .before .before .before .before .before .before in
+    faulty-contexts _ _ _ _ (start .pre .0) _ (c6 .check-terms .ensures .0) (start .pre .1) _
+    (c .before .before .check-contexts .ensures) _ (c .enum-told4 .given .1)
 
 returns-5 : tie.Need-returns-5
-returns-5 c = sound-tables _ _ _ _ (c .before .before .before .before .before .before .before .before .before .before .before .before .pre .0) _ (c .before .before .before .before .before .before .check-terms .ensures .0) (c .before .before .before .before .before .before .before .before .before .before .before .before .pre .1) _ (c .before .before .check-contexts .ensures) (c .before .before .before .before .before .before .before .before .before .if1 .left) (c .before .before .before .before .before .before .before .before .if2 .left) (c .before .before .before .enum-told .given .1) (c .enum-told3 .given .1)
+returns-5 c =
+    let c3 = c .before .before .before in
+    let c6 = c3 .before .before .before in
+    let c9 = c6 .before .before .before in
+    let start = c9 .before .before .before in
+    faultless-tables _ _ _ _ (start .pre .0) _ (c6 .check-terms .ensures .0) (start .pre .1) _
+    (c .before .before .check-contexts .ensures) (c9 .if1 .left) (c6 .before .before .if2 .left)
+    (c3 .enum-told .given .1) (c .enum-told3 .given .1)
 
 pub are-sound-spec : {M : Type 1} → statement M
 are-sound-spec =

@@ -1,5 +1,5 @@
 use mathlib.Core.Path.{_∙_}
-use Rattle.sheets.proofs.AnswerLaws.{contexts-8, contexts-right, tabled, contexts-whole}
+use Rattle.sheets.proofs.AnswerLaws.{contexts-8, contexts-right, well-formed, contexts-whole}
 use borrow.Author.Needs.{needs}
 use Rattle.sheets.proofs.admission.admit_contexts.Statement.{statement}
 use Rattle.sheets.proofs.admission.admit_contexts.Tie as tie
@@ -26,7 +26,7 @@ enum-told : tie.Need-enum-told
 enum-told c = search needs
 
 admit-lines-requires : tie.Need-admit-lines-requires
-admit-lines-requires c κs = tabled _ _ _ _ _ (c .before .before .check-contexts .ensures) (c .before .before .before .before .before .pre .0) (c .before .before .before .before .before .pre .1) (c .enum-told .given .1)
+admit-lines-requires c κs = well-formed _ _ _ _ _ (c .before .before .check-contexts .ensures) (c .before .before .before .before .before .pre .0) (c .before .before .before .before .before .pre .1) (c .enum-told .given .1)
 
 returns : tie.Need-returns
 returns c = contexts-8 _ _ _ _ _ (c .before .before .before .check-contexts .ensures) _ (c .before .place .given .1)

@@ -40,7 +40,12 @@ word-at-requires-8 : tie.Need-word-at-requires-8
 word-at-requires-8 c κs = search needs
 
 returns : tie.Need-returns
-returns c = trailer-read _ _ _ _ _ _ _ _ _ (c .before .before .before .before .before .before .before .word-at .ensures .0) (c .before .before .before .before .before .before .word-at2 .ensures .0) (c .before .before .before .before .before .word-at3 .ensures .0) (c .before .before .before .before .word-at4 .ensures .0) (c .before .before .before .word-at5 .ensures .0) (c .before .before .word-at6 .ensures .0) (c .before .word-at7 .ensures .0) (c .word-at8 .ensures .0)
+returns c =
+    let c3 = c .before .before .before in
+    let c6 = c3 .before .before .before in
+    trailer-read _ _ _ _ _ _ _ _ _ (c6 .before .word-at .ensures .0) (c6 .word-at2 .ensures .0)
+    (c3 .before .before .word-at3 .ensures .0) (c3 .before .word-at4 .ensures .0) (c3 .word-at5 .ensures .0)
+    (c .before .before .word-at6 .ensures .0) (c .before .word-at7 .ensures .0) (c .word-at8 .ensures .0)
 
 pub read-trailer-spec : {M : Type 1} → statement M
 read-trailer-spec =

@@ -4,7 +4,8 @@ use mathlib.Core.Path.{refl, _∙_, ap}
 use Prim.Native.Nat.{_+_, _*_}
 use Rattle.sheets.specs.Layout.{contextsIn, linesIn}
 use Rattle.sheets.specs.Lines.{judgmentOf, premisesOf}
-use Rattle.sheets.proofs.LineAnswers.{part-is, named-whole, line-cited, line-decided}
+use Rattle.sheets.proofs.BufferLaws.{part-to-end}
+use Rattle.sheets.proofs.LineAnswers.{named-whole, line-in-tables, line-decided}
 use borrow.Author.Needs.{needs}
 use native.Mathlib.Omega.{arith}
 use Rattle.sheets.proofs.lines.line_follows.Statement.{statement}
@@ -22,14 +23,14 @@ mul-after-contexts-2 c = search needs
 add-after-contexts : tie.Need-add-after-contexts
 add-after-contexts c = search needs
 
-sub-rows : tie.Need-sub-rows
-sub-rows c = search needs
+sub-context-rows : tie.Need-sub-context-rows
+sub-context-rows c = search needs
 
-part-rows-start : tie.Need-part-rows-start
-part-rows-start c = search needs
+part-context-rows-start : tie.Need-part-context-rows-start
+part-context-rows-start c = search needs
 
-part-rows-end : tie.Need-part-rows-end
-part-rows-end c = search needs
+part-context-rows-end : tie.Need-part-context-rows-end
+part-context-rows-end c = search needs
 
 sub-lines : tie.Need-sub-lines
 sub-lines c = search needs
@@ -42,28 +43,40 @@ part-lines-end c = search needs
 
 read-line-requires : tie.Need-read-line-requires
 unfolding premisesOf
-read-line-requires c κs = named-whole _ _ _ _ (c .before .before .before .args .line) (c .before .before .before .pre .0) (c .before .before .before .pre .1) (c .before .before .before .pre .2) 0 _ (omega arith) refl
+read-line-requires c κs =
+    let start = c .before .before .before in
+    let rows = start .pre in
+    named-whole _ _ _ _ (start .args .line) (rows .0) (rows .1) (rows .2) 0 _ (omega arith) refl
 
 judgment-of-requires : tie.Need-judgment-of-requires
 judgment-of-requires c κs = search needs
 
 read-line-requires-2 : tie.Need-read-line-requires-2
 unfolding premisesOf
-read-line-requires-2 c κs = named-whole _ _ _ _ (c .before .before .before .before .before .args .line) (c .before .before .before .before .before .pre .0) (c .before .before .before .before .before .pre .1) (c .before .before .before .before .before .pre .2) 1 _ (omega arith) refl
+read-line-requires-2 c κs =
+    let start = c .before .before .before .before .before in
+    let rows = start .pre in
+    named-whole _ _ _ _ (start .args .line) (rows .0) (rows .1) (rows .2) 1 _ (omega arith) refl
 
 judgment-of-requires-2 : tie.Need-judgment-of-requires-2
 judgment-of-requires-2 c κs = search needs
 
 read-line-requires-3 : tie.Need-read-line-requires-3
 unfolding premisesOf
-read-line-requires-3 c κs = named-whole _ _ _ _ (c .before .before .before .before .before .before .before .args .line) (c .before .before .before .before .before .before .before .pre .0) (c .before .before .before .before .before .before .before .pre .1) (c .before .before .before .before .before .before .before .pre .2) 2 _ (omega arith) refl
+read-line-requires-3 c κs =
+    let start = c .before .before .before .before .before .before .before in
+    let rows = start .pre in
+    named-whole _ _ _ _ (start .args .line) (rows .0) (rows .1) (rows .2) 2 _ (omega arith) refl
 
 judgment-of-requires-3 : tie.Need-judgment-of-requires-3
 judgment-of-requires-3 c κs = search needs
 
 read-line-requires-4 : tie.Need-read-line-requires-4
 unfolding premisesOf
-read-line-requires-4 c κs = named-whole _ _ _ _ (c .before .before .before .before .before .before .before .before .before .args .line) (c .before .before .before .before .before .before .before .before .before .pre .0) (c .before .before .before .before .before .before .before .before .before .pre .1) (c .before .before .before .before .before .before .before .before .before .pre .2) 3 _ (omega arith) refl
+read-line-requires-4 c κs =
+    let start = c .before .before .before .before .before .before .before .before .before in
+    let rows = start .pre in
+    named-whole _ _ _ _ (start .args .line) (rows .0) (rows .1) (rows .2) 3 _ (omega arith) refl
 
 judgment-of-requires-4 : tie.Need-judgment-of-requires-4
 judgment-of-requires-4 c κs = search needs
@@ -73,11 +86,38 @@ judgment-of-requires-5 c κs = search needs
 
 is-instance-requires : tie.Need-is-instance-requires
 unfolding contextsIn linesIn
-is-instance-requires c κs = line-cited _ _ _ _ (c .before .before .before .before .before .before .before .before .before .before .before .before .args .line) (c .before .before .before .before .before .before .before .before .before .before .before .before .pre .0) (c .before .before .before .before .before .before .before .before .before .before .before .before .pre .1) (c .before .before .before .before .before .before .before .before .before .before .before .before .pre .2) _ _ (part-is (c .before .before .before .before .before .before .before .before .before .before .before .before .args .sheet .now) (10 * c .before .before .before .before .before .before .before .before .before .before .before .before .args .terms)) (part-is (c .before .before .before .before .before .before .before .before .before .before .before .before .args .sheet .now) (10 * c .before .before .before .before .before .before .before .before .before .before .before .before .args .terms + 4 * c .before .before .before .before .before .before .before .before .before .before .before .before .args .contexts)) _ _ _ _ _ (c .before .before .before .before .before .before .before .judgment-of .ensures ∙ ap judgmentOf (c .before .before .before .before .before .before .before .before .read-line .ensures)) (c .before .before .before .before .before .judgment-of2 .ensures ∙ ap judgmentOf (c .before .before .before .before .before .before .read-line2 .ensures)) (c .before .before .before .judgment-of3 .ensures ∙ ap judgmentOf (c .before .before .before .before .read-line3 .ensures)) (c .before .judgment-of4 .ensures ∙ ap judgmentOf (c .before .before .read-line4 .ensures)) (c .judgment-of5 .ensures)
+is-instance-requires c κs =
+    let c3 = c .before .before .before in
+    let c6 = c3 .before .before .before in
+    let start = c6 .before .before .before .before .before .before in
+    let rows = start .pre in
+    let bytes = start .args .sheet .now in
+    let terms = start .args .terms in
+    line-in-tables _ _ _ _ (start .args .line) (rows .0) (rows .1) (rows .2) _ _ (part-to-end bytes (10 * terms))
+    (part-to-end bytes (10 * terms + 4 * start .args .contexts)) _ _ _ _ _
+    (c6 .before .judgment-of .ensures ∙ ap judgmentOf (c6 .before .before .read-line .ensures))
+    (c3 .before .before .judgment-of2 .ensures ∙ ap judgmentOf (c6 .read-line2 .ensures))
+    (c3 .judgment-of3 .ensures ∙ ap judgmentOf (c3 .before .read-line3 .ensures))
+    (c .before .judgment-of4 .ensures ∙ ap judgmentOf (c .before .before .read-line4 .ensures))
+    (c .judgment-of5 .ensures)
 
 returns : tie.Need-returns
 unfolding contextsIn linesIn
-returns c = line-decided _ _ _ _ (c .before .before .before .before .before .before .before .before .before .before .before .before .before .args .line) (c .before .before .before .before .before .before .before .before .before .before .before .before .before .pre .0) (c .before .before .before .before .before .before .before .before .before .before .before .before .before .pre .1) (c .before .before .before .before .before .before .before .before .before .before .before .before .before .pre .2) _ _ (part-is (c .before .before .before .before .before .before .before .before .before .before .before .before .before .args .sheet .now) (10 * c .before .before .before .before .before .before .before .before .before .before .before .before .before .args .terms)) (part-is (c .before .before .before .before .before .before .before .before .before .before .before .before .before .args .sheet .now) (10 * c .before .before .before .before .before .before .before .before .before .before .before .before .before .args .terms + 4 * c .before .before .before .before .before .before .before .before .before .before .before .before .before .args .contexts)) _ _ _ _ _ (c .before .before .before .before .before .before .before .before .judgment-of .ensures ∙ ap judgmentOf (c .before .before .before .before .before .before .before .before .before .read-line .ensures)) (c .before .before .before .before .before .before .judgment-of2 .ensures ∙ ap judgmentOf (c .before .before .before .before .before .before .before .read-line2 .ensures)) (c .before .before .before .before .judgment-of3 .ensures ∙ ap judgmentOf (c .before .before .before .before .before .read-line3 .ensures)) (c .before .before .judgment-of4 .ensures ∙ ap judgmentOf (c .before .before .before .read-line4 .ensures)) (c .before .judgment-of5 .ensures) _ (c .is-instance .ensures)
+returns c =
+    let at = c .before in
+    let c3 = at .before .before .before in
+    let c6 = c3 .before .before .before in
+    let start = c6 .before .before .before .before .before .before in
+    let rows = start .pre in
+    let bytes = start .args .sheet .now in
+    let terms = start .args .terms in
+    line-decided _ _ _ _ (start .args .line) (rows .0) (rows .1) (rows .2) _ _ (part-to-end bytes (10 * terms))
+    (part-to-end bytes (10 * terms + 4 * start .args .contexts)) _ _ _ _ _
+    (c6 .before .judgment-of .ensures ∙ ap judgmentOf (c6 .before .before .read-line .ensures))
+    (c3 .before .before .judgment-of2 .ensures ∙ ap judgmentOf (c6 .read-line2 .ensures))
+    (c3 .judgment-of3 .ensures ∙ ap judgmentOf (c3 .before .read-line3 .ensures))
+    (at .before .judgment-of4 .ensures ∙ ap judgmentOf (at .before .before .read-line4 .ensures))
+    (at .judgment-of5 .ensures) _ (c .is-instance .ensures)
 
 pub line-follows-spec : {M : Type 1} → statement M
 line-follows-spec =
@@ -87,9 +127,9 @@ line-follows-spec =
     mul-after-contexts
     mul-after-contexts-2
     add-after-contexts
-    sub-rows
-    part-rows-start
-    part-rows-end
+    sub-context-rows
+    part-context-rows-start
+    part-context-rows-end
     sub-lines
     part-lines-start
     part-lines-end

@@ -22,7 +22,12 @@ lowered-requires : tie.Need-lowered-requires
 lowered-requires c κs = search needs
 
 returns-2 : tie.Need-returns-2
-returns-2 c = (word-line _ _ _ _ _ _ _ _ (c .before .before .before .before .if1 .left) (c .before .before .before .if2 .taken) (c .before .before .old-place .ensures .0) (c .before .word-at2 .ensures .0) (c .lowered .ensures .0), omega (arith, c .lowered .ensures .1, c .before .word-at2 .ensures .1))
+returns-2 c =
+    let c3 = c .before .before .before in (
+      word-line _ _ _ _ _ _ _ _ (c3 .before .if1 .left) (c3 .if2 .taken) (c .before .before .old-place .ensures .0)
+          (c .before .word-at2 .ensures .0) (c .lowered .ensures .0),
+      omega (arith, c .lowered .ensures .1, c .before .word-at2 .ensures .1),
+    )
 
 add-word-at : tie.Need-add-word-at
 add-word-at c = search needs
@@ -37,7 +42,12 @@ less-requires : tie.Need-less-requires
 less-requires c κs = search needs
 
 returns-3 : tie.Need-returns-3
-returns-3 c = (word-trailer _ _ _ _ _ _ _ _ (c .before .before .before .before .if1 .left) (c .before .before .before .if2 .left) (c .before .before .word-at3 .ensures .0) (c .before .trailer-loses .ensures) (c .less .ensures .0), omega (arith, c .less .ensures .1, c .before .before .word-at3 .ensures .1))
+returns-3 c =
+    let c3 = c .before .before .before in (
+      word-trailer _ _ _ _ _ _ _ _ (c3 .before .if1 .left) (c3 .if2 .left) (c .before .before .word-at3 .ensures .0)
+          (c .before .trailer-loses .ensures) (c .less .ensures .0),
+      omega (arith, c .less .ensures .1, c .before .before .word-at3 .ensures .1),
+    )
 
 pub new-word-spec : {M : Type 1} → statement M
 new-word-spec =

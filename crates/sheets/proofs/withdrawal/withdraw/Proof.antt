@@ -14,13 +14,19 @@ enum-known-terms : tie.Need-enum-known-terms
 enum-known-terms c = search needs
 
 withdraw-line-requires : tie.Need-withdraw-line-requires
-withdraw-line-requires c κs = admitted-good _ 0 _ [] _ (c .before .before .before .before .before .before .admit .ensures .0) _ _ _ (c .before .before .terms .given .1)
+withdraw-line-requires c κs =
+    let c6 = c .before .before .before .before .before .before in
+    admitted-good _ 0 _ [] _ (c6 .admit .ensures .0) _ _ _ (c .before .before .terms .given .1)
 
 same-length : tie.Need-same-length
 same-length c = search needs
 
 returns : tie.Need-returns
-returns c = let h = handed-on _ _ _ _ _ (c .before .before .before .before .before .admit .ensures .0) _ _ (c .before .number .given .1) in (h .0, (c .before .before .before .before .before .admit .ensures .1, (h .1, kept _ _ _ _ _ _ (h .0) (h .1))))
+returns c =
+    let h = handed-on _ _ _ _ _ (c .before .before .before .before .before .admit .ensures .0) _ _
+    (c .before .number .given .1) in
+    let c3 = c .before .before .before in
+    (h .0, (c3 .before .before .admit .ensures .1, (h .1, kept _ _ _ _ _ _ (h .0) (h .1))))
 
 same-length-2 : tie.Need-same-length-2
 same-length-2 c = search needs
@@ -29,7 +35,12 @@ same-length-3 : tie.Need-same-length-3
 same-length-3 c = search needs
 
 returns-2 : tie.Need-returns-2
-returns-2 c = let h = gone-on _ _ _ _ _ (c .before .before .before .before .before .before .before .before .before .admit .ensures .0) _ _ _ (c .before .before .before .before .before .terms .given .1) _ _ (c .before .before .withdraw-line .ensures .0) (c .before .before .withdraw-line .ensures .1) in (h .0, (c .before .before .before .before .before .before .before .before .before .admit .ensures .1, (h .1, kept _ _ _ _ _ _ (h .0) (h .1))))
+returns-2 c =
+    let h = gone-on _ _ _ _ _ (c .before .before .before .before .before .before .before .before .before .admit .ensures .0) _
+    _ _ (c .before .before .before .before .before .terms .given .1) _ _
+    (c .before .before .withdraw-line .ensures .0) (c .before .before .withdraw-line .ensures .1) in
+    let c9 = c .before .before .before .before .before .before .before .before .before in
+    (h .0, (c9 .admit .ensures .1, (h .1, kept _ _ _ _ _ _ (h .0) (h .1))))
 
 pub withdraw-spec : {M : Type 1} → statement M
 withdraw-spec =

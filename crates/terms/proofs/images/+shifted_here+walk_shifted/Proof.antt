@@ -1,13 +1,14 @@
--- The walk of two terms in step answers for raising; the row number falls at each child, and the memory keeps what held.
+-- The walk of two terms in step answers for raising; the row number falls at each child, and the memory keeps what
+-- held.
 use mathlib.Core.Path.{_≡_, sym, subst}
 use mathlib.Core.List.{[]}
 use Prim.Native.Nat.{ℕ, _<_, _+_, _*_, _-_}
 use Rattle.terms.specs.Decides.{Decides}
 use Rattle.terms.specs.Rows.{term}
 use Rattle.terms.specs.Substitution.{shift}
-use Rattle.terms.specs.Held.{Held}
-use Rattle.terms.proofs.HeldLaws.{code-bounds, held-hit, held-more, held-same}
-use Rattle.terms.proofs.Tests.{given-of}
+use Rattle.terms.specs.Memo.{MemoHolds}
+use Rattle.terms.proofs.MemoLaws.{code-bounds, memo-hit, memo-more, memo-same}
+use Rattle.terms.proofs.Tests.{other-rows}
 use Rattle.terms.proofs.WalkLaws.{Walk, under-shift, heads-differ, walk-start, walk-tag, walk-place, walk-given, walk-next, walk-stop, walk-end, child-below}
 use Rattle.terms.proofs.TermLaws.{row-described}
 use Rattle.terms.proofs.NodeLaws.{row-whole, variable-row}
@@ -20,8 +21,8 @@ use Rattle.terms.proofs.images.+shifted_here+walk_shifted.Lts-shifted_h
 use Rattle.terms.proofs.images.walk_shifted.Reads as walk
 use Rattle.terms.proofs.images.walk_shifted.Kinds as walk-kinds
 use Rattle.terms.proofs.images.+shifted_here+walk_shifted.Lts-walk_shifted as walk-lts
-use Rattle.terms.proofs.held.hold.Reads as hold-reads
-use Rattle.terms.proofs.held.is_held.Reads as is-held-reads
+use Rattle.terms.proofs.memo.remember.Reads as remember-reads
+use Rattle.terms.proofs.memo.is_remembered.Reads as is-remembered-reads
 use Rattle.terms.proofs.images.is_raised_variable.Reads as is-raised-variable-reads
 use Rattle.terms.proofs.nodes.same_head.Reads as same-head-reads
 use Rattle.terms.proofs.rows.word.Reads as word-reads
@@ -50,95 +51,187 @@ abbrev walk-below : ℕ → In 2 walk-kinds.ps
 walk-below t = and 2 walk-kinds.ps (falls 2 walk-kinds.ps _<_ μ-walk t) walk.Pre
 
 abbrev calls : ℕ → here-lts.Claims
-calls t = (word-reads.Asked, word-reads.Learnt, is-raised-variable-reads.Asked, is-raised-variable-reads.Learnt, same-head-reads.Asked, same-head-reads.Learnt, arity-reads.Asked, arity-reads.Learnt, binders-reads.Asked, binders-reads.Learnt, walk-below t, walk.Post)
+calls t = (
+  word-reads.Asked,
+  word-reads.Learnt,
+  is-raised-variable-reads.Asked,
+  is-raised-variable-reads.Learnt,
+  same-head-reads.Asked,
+  same-head-reads.Learnt,
+  arity-reads.Asked,
+  arity-reads.Learnt,
+  binders-reads.Asked,
+  binders-reads.Learnt,
+  walk-below t,
+  walk.Post,
+)
 
 abbrev walk-calls : ℕ → walk-lts.Claims
-walk-calls t = (is-held-reads.Asked, is-held-reads.Learnt, here-below t, here.Post, hold-reads.Asked, hold-reads.Learnt)
+walk-calls t = (is-remembered-reads.Asked, is-remembered-reads.Learnt, here-below t, here.Post, remember-reads.Asked, remember-reads.Learnt)
 
 abbrev Inv-loop : here-lts.InvT-loop
-Inv-loop rows k d t u held₀ tag count j₀ held j = Walk rows [] (λ n s. shift n d s) (under-shift d) k t u tag count j × Held rows (λ n s. shift n d s) held
+Inv-loop rows k d t u memo₀ tag count j₀ memo j =
+    Walk rows [] (λ n s. shift n d s) (under-shift d) k t u tag count j × MemoHolds rows (λ n s. shift n d s) memo
 
 abbrev μ-loop : here-lts.MeasureT-loop
-μ-loop rows k d t u held₀ tag count j₀ held j = count + 1 - j
+μ-loop rows k d t u memo₀ tag count j₀ memo j = count + 1 - j
 
 word-requires : (t : ℕ) → here-lts.Need-word-requires (calls t) (here-at t) here.Post Inv-loop μ-loop
 word-requires t c κs = (row-whole _ _ _ (c .before .pre .1 .0 .table) (c .before .pre .1 .0 .below .0), omega arith)
 
 word-requires-2 : (t : ℕ) → here-lts.Need-word-requires-2 (calls t) (here-at t) here.Post Inv-loop μ-loop
-word-requires-2 t c κs = let s = c .before .before .before in (row-whole _ _ _ (s .pre .1 .0 .table) (s .pre .1 .0 .below .0), omega arith)
+word-requires-2 t c κs =
+    let s = c .before .before .before in
+    (row-whole _ _ _ (s .pre .1 .0 .table) (s .pre .1 .0 .below .0), omega arith)
 
-is-raised-variable-requires : (t : ℕ) → here-lts.Need-is-raised-variable-requires (calls t) (here-at t) here.Post Inv-loop μ-loop
-is-raised-variable-requires t c κs = let s = c .before .before .before .before in (given-of _ _ _ (λ n h. h .1) (s .pre .1 .0), c .word2 .ensures .1, s .pre .1 .2)
+is-raised-variable-requires : (t : ℕ)
+    → here-lts.Need-is-raised-variable-requires (calls t) (here-at t) here.Post Inv-loop μ-loop
+is-raised-variable-requires t c κs =
+    let s = c .before .before .before .before in
+    (other-rows (λ n h. h .1) (s .pre .1 .0), c .word2 .ensures .1, s .pre .1 .2)
 
 returns : (t : ℕ) → here-lts.Need-returns (calls t) (here-at t) here.Post Inv-loop μ-loop
 returns t c =
     let s = c .before .before .before .before .before in
-    let row = variable-row _ _ (s .pre .1 .0 .table) _ (s .pre .1 .0 .below .0) _ _ (c .before .before .before .word .ensures .0) (c .before .before .if1 .taken) (c .before .word2 .ensures .0) in
-    (subst (λ x. Decides (c .is-raised-variable .result) (term (s .args .rows .now) (s .args .u) ≡ shift (s .args .k) (s .args .d) x)) (sym row) (c .is-raised-variable .ensures), s .pre .1 .3)
+    let row = variable-row _ _ (s .pre .1 .0 .table) _ (s .pre .1 .0 .below .0) _ _
+    (c .before .before .before .word .ensures .0) (c .before .before .if1 .taken) (c .before .word2 .ensures .0) in (
+      subst
+          (λ x. Decides (c .is-raised-variable .result)
+          (term (s .args .rows .now) (s .args .u) ≡ shift (s .args .k) (s .args .d) x)) (sym row)
+          (c .is-raised-variable .ensures),
+      s .pre .1 .3,
+    )
 
 same-head-requires : (t : ℕ) → here-lts.Need-same-head-requires (calls t) (here-at t) here.Post Inv-loop μ-loop
-same-head-requires t c κs = given-of _ _ _ (λ n h. h) (c .before .before .before .pre .1 .0)
+same-head-requires t c κs = other-rows (λ n h. h) (c .before .before .before .pre .1 .0)
 
 arity-requires : (t : ℕ) → here-lts.Need-arity-requires (calls t) (here-at t) here.Post Inv-loop μ-loop
-arity-requires t c κs = let s = c .before .before .before .before .before in omega (arith, row-described _ _ (s .pre .1 .0 .table) _ (s .pre .1 .0 .below .0) .high, c .before .before .before .word .ensures .0)
+arity-requires t c κs =
+    let s = c .before .before .before .before .before in
+    let c3 = c .before .before .before in
+    omega (arith, row-described _ _ (s .pre .1 .0 .table) _ (s .pre .1 .0 .below .0) .high, c3 .word .ensures .0)
 
 loop-holds : (t : ℕ) → here-lts.Need-loop-holds (calls t) (here-at t) here.Post Inv-loop μ-loop
-loop-holds t c = let s = c .before .before .before .before .before .before in (walk-start _ _ _ (under-shift (s .args .d)) _ _ _ _ _ (s .pre .1 .0) (c .before .before .before .before .word .ensures .0) (c .before .before .before .if1 .left) _ (c .before .before .same-head .ensures) (c .before .if2 .taken) (c .arity .ensures .0), s .pre .1 .3)
+loop-holds t c =
+    let s = c .before .before .before .before .before .before in
+    let c3 = c .before .before .before in (
+      walk-start _ _ _ (under-shift (s .args .d)) _ _ _ _ _ (s .pre .1 .0) (c3 .before .word .ensures .0)
+          (c3 .if1 .left) _ (c .before .before .same-head .ensures) (c .before .if2 .taken) (c .arity .ensures .0),
+      s .pre .1 .3,
+    )
 
 binders-requires : (t : ℕ) → here-lts.Need-binders-requires (calls t) (here-at t) here.Post Inv-loop μ-loop
-binders-requires t c κs = let w = c .before .loop .inv .0 in (walk-tag _ _ _ _ _ _ _ _ _ _ w, walk-place _ _ _ _ _ _ _ _ _ _ w (c .loop-test .taken))
+binders-requires t c κs =
+    let w = c .before .loop .inv .0 in
+    (walk-tag _ _ _ _ _ _ _ _ _ _ w, walk-place _ _ _ _ _ _ _ _ _ _ w (c .loop-test .taken))
 
 add-walk-shifted : (t : ℕ) → here-lts.Need-add-walk-shifted (calls t) (here-at t) here.Post Inv-loop μ-loop
-add-walk-shifted t c = omega (arith, c .binders .ensures .1, c .before .before .before .before .before .before .before .before .before .pre .1 .1)
+add-walk-shifted t c =
+    let start = c .before .before .before .before .before .before .before .before .before in
+    omega (arith, c .binders .ensures .1, start .pre .1 .1)
 
 word-requires-3 : (t : ℕ) → here-lts.Need-word-requires-3 (calls t) (here-at t) here.Post Inv-loop μ-loop
-word-requires-3 t c κs = let s = c .before .before .before .before .before .before .before .before .before in (row-whole _ _ _ (s .pre .1 .0 .table) (s .pre .1 .0 .below .0), walk-place _ _ _ _ _ _ _ _ _ _ (c .before .before .loop .inv .0) (c .before .loop-test .taken))
+word-requires-3 t c κs =
+    let s = c .before .before .before .before .before .before .before .before .before in (
+      row-whole _ _ _ (s .pre .1 .0 .table) (s .pre .1 .0 .below .0),
+      walk-place _ _ _ _ _ _ _ _ _ _ (c .before .before .loop .inv .0) (c .before .loop-test .taken),
+    )
 
 word-requires-4 : (t : ℕ) → here-lts.Need-word-requires-4 (calls t) (here-at t) here.Post Inv-loop μ-loop
-word-requires-4 t c κs = let s = c .before .before .before .before .before .before .before .before .before .before in (row-whole _ _ _ (s .pre .1 .0 .table) (s .pre .1 .0 .below .1 .0), walk-place _ _ _ _ _ _ _ _ _ _ (c .before .before .before .loop .inv .0) (c .before .before .loop-test .taken))
+word-requires-4 t c κs =
+    let s = c .before .before .before .before .before .before .before .before .before .before in
+    let c3 = c .before .before .before in (
+      row-whole _ _ _ (s .pre .1 .0 .table) (s .pre .1 .0 .below .1 .0),
+      walk-place _ _ _ _ _ _ _ _ _ _ (c3 .loop .inv .0) (c .before .before .loop-test .taken),
+    )
 
 walk-shifted-requires : (t : ℕ) → here-lts.Need-walk-shifted-requires (calls t) (here-at t) here.Post Inv-loop μ-loop
 walk-shifted-requires t c κs =
     let s = c .before .before .before .before .before .before .before .before .before .before .before .before in
     let w = c .before .before .before .before .before .loop .inv .0 in
-    let falls = child-below _ _ _ _ _ _ _ _ _ _ w _ _ (c .before .before .before .before .loop-test .taken) (c .before .before .word3 .ensures .0) (c .before .word4 .ensures .0) in
-    (omega (arith, falls .0, s .pre .0), (walk-given _ _ _ _ _ _ _ _ _ _ w _ _ (c .before .before .before .before .loop-test .taken) (c .before .before .word3 .ensures .0) (c .before .word4 .ensures .0), omega (arith, falls .0, c .before .before .before .binders .ensures .1, s .pre .1 .1), s .pre .1 .2, c .before .before .before .before .before .loop .inv .1))
+    let falls = child-below _ _ _ _ _ _ _ _ _ _ w _ _ (c .before .before .before .before .loop-test .taken)
+    (c .before .before .word3 .ensures .0) (c .before .word4 .ensures .0) in (
+      omega (arith, falls .0, s .pre .0),
+      (
+        walk-given _ _ _ _ _ _ _ _ _ _ w _ _ (c .before .before .before .before .loop-test .taken)
+            (c .before .before .word3 .ensures .0) (c .before .word4 .ensures .0),
+        omega (arith, falls .0, c .before .before .before .binders .ensures .1, s .pre .1 .1),
+        s .pre .1 .2,
+        c .before .before .before .before .before .loop .inv .1,
+      ),
+    )
 
 add-j : (t : ℕ) → here-lts.Need-add-j (calls t) (here-at t) here.Post Inv-loop μ-loop
-add-j t c = omega (arith, c .before .before .before .before .before .before .before .loop .inv .0 .visit .to, c .before .before .before .before .before .before .before .before .arity .ensures .1)
+add-j t c =
+    let c6 = c .before .before .before .before .before .before in
+    omega (arith, c6 .before .loop .inv .0 .visit .to, c6 .before .before .arity .ensures .1)
 
 loop-less : (t : ℕ) → here-lts.Need-loop-less (calls t) (here-at t) here.Post Inv-loop μ-loop
 loop-less t c = omega (arith, c .before .before .before .before .before .before .before .loop .inv .0 .visit .to)
 
 loop-again : (t : ℕ) → here-lts.Need-loop-again (calls t) (here-at t) here.Post Inv-loop μ-loop
-loop-again t c = (walk-next _ _ _ _ _ _ _ _ _ _ (c .before .before .before .before .before .before .before .loop .inv .0) _ _ _ (c .before .before .before .before .before .before .loop-test .taken) (c .before .before .before .before .before .binders .ensures .0) (c .before .before .before .before .word3 .ensures .0) (c .before .before .before .word4 .ensures .0) _ (c .before .walk-shifted .ensures .0) (c .if3 .taken), c .before .walk-shifted .ensures .1)
+loop-again t c =
+    let c3 = c .before .before .before in
+    let c6 = c3 .before .before .before in (
+      walk-next _ _ _ _ _ _ _ _ _ _ (c6 .before .loop .inv .0) _ _ _ (c6 .loop-test .taken)
+          (c3 .before .before .binders .ensures .0) (c3 .before .word3 .ensures .0) (c3 .word4 .ensures .0) _
+          (c .before .walk-shifted .ensures .0) (c .if3 .taken),
+      c .before .walk-shifted .ensures .1,
+    )
 
 returns-2 : (t : ℕ) → here-lts.Need-returns-2 (calls t) (here-at t) here.Post Inv-loop μ-loop
-returns-2 t c = (walk-stop _ _ _ _ _ _ _ _ _ _ (c .before .before .before .before .before .before .before .loop .inv .0) _ _ _ (c .before .before .before .before .before .before .loop-test .taken) (c .before .before .before .before .before .binders .ensures .0) (c .before .before .before .before .word3 .ensures .0) (c .before .before .before .word4 .ensures .0) _ (c .before .walk-shifted .ensures .0) (c .if3 .left), c .before .walk-shifted .ensures .1)
+returns-2 t c =
+    let c3 = c .before .before .before in
+    let c6 = c3 .before .before .before in (
+      walk-stop _ _ _ _ _ _ _ _ _ _ (c6 .before .loop .inv .0) _ _ _ (c6 .loop-test .taken)
+          (c3 .before .before .binders .ensures .0) (c3 .before .word3 .ensures .0) (c3 .word4 .ensures .0) _
+          (c .before .walk-shifted .ensures .0) (c .if3 .left),
+      c .before .walk-shifted .ensures .1,
+    )
 
 returns-3 : (t : ℕ) → here-lts.Need-returns-3 (calls t) (here-at t) here.Post Inv-loop μ-loop
 returns-3 t c = (walk-end _ _ _ _ _ _ _ _ _ _ (c .before .loop .inv .0) (c .loop-test .left), c .before .loop .inv .1)
 
 returns-4 : (t : ℕ) → here-lts.Need-returns-4 (calls t) (here-at t) here.Post Inv-loop μ-loop
-returns-4 t c = let s = c .before .before .before .before .before in (heads-differ _ _ _ (under-shift (s .args .d)) _ _ _ _ (s .pre .1 .0) (c .before .before .before .word .ensures .0) (c .before .before .if1 .left) _ (c .before .same-head .ensures) (c .if2 .left), s .pre .1 .3)
+returns-4 t c =
+    let s = c .before .before .before .before .before in
+    let c3 = c .before .before .before in (
+      heads-differ _ _ _ (under-shift (s .args .d)) _ _ _ _ (s .pre .1 .0) (c3 .word .ensures .0)
+          (c .before .before .if1 .left) _ (c .before .same-head .ensures) (c .if2 .left),
+      s .pre .1 .3,
+    )
 
-is-held-requires : (t : ℕ) → walk-lts.Need-is-held-requires (walk-calls t) (walk-at t) walk.Post
-is-held-requires t c κs = let s = c .before .before in code-bounds _ _ _ _ _ (s .pre .1 .0) (s .pre .1 .1)
+is-remembered-requires : (t : ℕ) → walk-lts.Need-is-remembered-requires (walk-calls t) (walk-at t) walk.Post
+is-remembered-requires t c κs = let s = c .before .before in code-bounds _ _ _ _ _ (s .pre .1 .0) (s .pre .1 .1)
 
 walk-returns : (t : ℕ) → walk-lts.Need-returns (walk-calls t) (walk-at t) walk.Post
-walk-returns t c = let s = c .before .before .before .before in held-hit _ _ _ _ _ _ (s .pre .1 .0) (s .pre .1 .1) _ (s .pre .1 .3) _ (c .before .is-held .ensures) (c .if1 .taken)
+walk-returns t c =
+    let s = c .before .before .before .before in
+    memo-hit _ _ _ _ _ _ (s .pre .1 .0) (s .pre .1 .1) _ (s .pre .1 .3) _ (c .before .is-remembered .ensures)
+    (c .if1 .taken)
 
 shifted-here-requires : (t : ℕ) → walk-lts.Need-shifted-here-requires (walk-calls t) (walk-at t) walk.Post
-shifted-here-requires t c κs = let s = c .before .before .before .before .before in (omega (arith, s .pre .0), s .pre .1)
+shifted-here-requires t c κs =
+    let s = c .before .before .before .before .before in
+    (omega (arith, s .pre .0), s .pre .1)
 
-hold-requires : (t : ℕ) → walk-lts.Need-hold-requires (walk-calls t) (walk-at t) walk.Post
-hold-requires t c κs = let s = c .before .before .before .before .before .before .before .before in code-bounds _ _ _ _ _ (s .pre .1 .0) (s .pre .1 .1)
+remember-requires : (t : ℕ) → walk-lts.Need-remember-requires (walk-calls t) (walk-at t) walk.Post
+remember-requires t c κs =
+    let s = c .before .before .before .before .before .before .before .before in
+    code-bounds _ _ _ _ _ (s .pre .1 .0) (s .pre .1 .1)
 
 walk-returns-2 : (t : ℕ) → walk-lts.Need-returns-2 (walk-calls t) (walk-at t) walk.Post
-walk-returns-2 t c = let s = c .before .before .before .before .before .before .before .before .before in let d = c .before .before .before .shifted-here .ensures in held-more _ _ _ _ _ _ (s .pre .1 .0) (s .pre .1 .1) _ _ (d .1) _ (d .0) (c .before .before .if2 .taken) (c .hold .ensures)
+walk-returns-2 t c =
+    let s = c .before .before .before .before .before .before .before .before .before in
+    let d = c .before .before .before .shifted-here .ensures in
+    memo-more _ _ _ _ _ _ (s .pre .1 .0) (s .pre .1 .1) _ _ (d .1) _ (d .0) (c .before .before .if2 .taken)
+    (c .remember .ensures)
 
 walk-returns-3 : (t : ℕ) → walk-lts.Need-returns-3 (walk-calls t) (walk-at t) walk.Post
-walk-returns-3 t c = let s = c .before .before .before .before .before .before .before in let d = c .before .shifted-here .ensures in held-same _ _ _ _ _ _ (s .pre .1 .0) (s .pre .1 .1) _ (d .1) _ (d .0) (c .if2 .left)
+walk-returns-3 t c =
+    let s = c .before .before .before .before .before .before .before in
+    let d = c .before .shifted-here .ensures in
+    memo-same _ _ _ _ _ _ (s .pre .1 .0) (s .pre .1 .1) _ (d .1) _ (d .0) (c .if2 .left)
 
 pub +shifted-here+walk-shifted-spec : {M : Type 1} → statement M
 +shifted-here+walk-shifted-spec =
@@ -175,9 +268,9 @@ pub +shifted-here+walk-shifted-spec : {M : Type 1} → statement M
     (walk-calls t)
     (walk-at t)
     walk.Post
-    (is-held-requires t)
+    (is-remembered-requires t)
     (walk-returns t)
     (shifted-here-requires t)
-    (hold-requires t)
+    (remember-requires t)
     (walk-returns-2 t)
     (walk-returns-3 t))

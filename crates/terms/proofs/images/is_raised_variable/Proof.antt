@@ -14,7 +14,10 @@ is-node-requires c κs = search needs
 
 returns : tie.Need-returns
 unfolding shift
-returns c = subst (λ m. Decides (c .is-node .result) (term (c .before .before .before .args .rows .now) (c .before .before .before .args .u) ≡ var m)) (sym (raise-bound _ _ _ (c .before .if1 .taken))) (c .is-node .ensures)
+returns c =
+    let start = c .before .before .before in
+    subst (λ m. Decides (c .is-node .result) (term (start .args .rows .now) (start .args .u) ≡ var m))
+    (sym (raise-bound _ _ _ (c .before .if1 .taken))) (c .is-node .ensures)
 
 add-t8 : tie.Need-add-t8
 add-t8 c = search needs
@@ -24,7 +27,10 @@ is-node-requires-2 c κs = search needs
 
 returns-2 : tie.Need-returns-2
 unfolding shift
-returns-2 c = subst (λ m. Decides (c .is-node2 .result) (term (c .before .before .before .args .rows .now) (c .before .before .before .args .u) ≡ var m)) (sym (raise-free _ _ _ (c .before .if1 .left))) (c .is-node2 .ensures)
+returns-2 c =
+    let start = c .before .before .before in
+    subst (λ m. Decides (c .is-node2 .result) (term (start .args .rows .now) (start .args .u) ≡ var m))
+    (sym (raise-free _ _ _ (c .before .if1 .left))) (c .is-node2 .ensures)
 
 pub is-raised-variable-spec : {M : Type 1} → statement M
 is-raised-variable-spec =

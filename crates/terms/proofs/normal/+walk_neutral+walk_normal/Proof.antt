@@ -166,7 +166,7 @@ module _ (t : ℕ) where
   normal-returns-3 c =
       let child = normal-child (c .before .before .before) in
       let answer = c .before .walk-normal .ensures in
-      (says-no (λ h. refuted _ (answer .0) (not-true _ (c .if3 .taken)) (child .part (normal-parts h))), answer .1)
+      (says-no (λ h. refuted (answer .0) (not-true _ (c .if3 .taken)) (child .part (normal-parts h))), answer .1)
 
   normal-add-j : normal.Need-add-j (normal-calls t) (normal-at t) normal-reads.Post normal-inv normal-left
   normal-add-j c =
@@ -270,7 +270,7 @@ module _ (t : ℕ) where
       let answer = c .before .walk-neutral .ensures in
       let place = neutral-place (c .before .before .before .before .before .before .before .before) in
       let asked = part-scrutinised _ _ _ (c .before .before .before .if3 .taken ∙ place) in
-      (says-no (λ h. refuted _ (answer .0) (not-true _ (c .if4 .taken)) (asked .0 (child .part (neutral-parts h)))), answer .1)
+      (says-no (λ h. refuted (answer .0) (not-true _ (c .if4 .taken)) (asked .0 (child .part (neutral-parts h)))), answer .1)
 
   neutral-walk-normal-requires : neutral.Need-walk-normal-requires (neutral-calls t) (neutral-at t) neutral-reads.Post neutral-inv neutral-left
   neutral-walk-normal-requires c κs =
@@ -284,7 +284,7 @@ module _ (t : ℕ) where
       let answer = c .before .walk-normal .ensures in
       let place = neutral-place (c .before .before .before .before .before .before .before .before) in
       let asked = part-other _ _ _ (λ e. c .before .before .before .if3 .left (e ∙ sym place)) in
-      (says-no (λ h. refuted _ (answer .0) (not-true _ (c .if5 .taken)) (asked .0 (child .part (neutral-parts h)))), answer .1)
+      (says-no (λ h. refuted (answer .0) (not-true _ (c .if5 .taken)) (asked .0 (child .part (neutral-parts h)))), answer .1)
 
   neutral-add-j : neutral.Need-add-j (neutral-calls t) (neutral-at t) neutral-reads.Post neutral-inv neutral-left
   neutral-add-j c =

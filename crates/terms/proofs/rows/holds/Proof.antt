@@ -23,7 +23,13 @@ word-requires-5 : tie.Need-word-requires-5
 word-requires-5 c κs = search needs
 
 returns-2 : tie.Need-returns-2
-returns-2 c = holds-rest _ _ _ _ _ _ _ _ (c .before .before .before .before .before .before .before .before .before .before .word .ensures .0) (c .before .before .before .before .before .before .before .before .if1 .left) (c .before .before .before .before .before .before .before .word2 .ensures .0) (c .before .before .before .before .before .word3 .ensures .0) (c .before .before .before .word4 .ensures .0) (c .before .word5 .ensures .0)
+returns-2 c =
+    let c3 = c .before .before .before in
+    let c6 = c3 .before .before .before in
+    let c9 = c6 .before .before .before in
+    holds-rest _ _ _ _ _ _ _ _ (c9 .before .word .ensures .0) (c6 .before .before .if1 .left)
+    (c6 .before .word2 .ensures .0) (c3 .before .before .word3 .ensures .0) (c3 .word4 .ensures .0)
+    (c .before .word5 .ensures .0)
 
 pub holds-spec : {M : Type 1} → statement M
 holds-spec =

@@ -1,5 +1,5 @@
 -- The five words are the row's.
-use Rattle.terms.specs.Sizes.{rowOf}
+use Rattle.terms.specs.Rows.{rowOf}
 use borrow.Author.Needs.{needs}
 use Rattle.terms.proofs.rows.read_row.Statement.{statement}
 use Rattle.terms.proofs.rows.read_row.Tie as tie

@@ -23,7 +23,12 @@ limit-requires-4 : tie.Need-limit-requires-4
 limit-requires-4 c κs = search needs
 
 returns-3 : tie.Need-returns-3
-returns-3 c = fits-rest _ _ _ _ _ _ (c .before .before .before .before .before .before .before .before .before .if1 .left) (c .before .before .before .before .before .before .before .before .if2 .left) (c .before .before .before .before .before .before .before .limit .ensures) (c .before .before .before .before .before .limit2 .ensures) (c .before .before .before .limit3 .ensures) (c .before .limit4 .ensures)
+returns-3 c =
+    let c3 = c .before .before .before in
+    let c6 = c3 .before .before .before in
+    let c9 = c6 .before .before .before in
+    fits-rest _ _ _ _ _ _ (c9 .if1 .left) (c6 .before .before .if2 .left) (c6 .before .limit .ensures)
+    (c3 .before .before .limit2 .ensures) (c3 .limit3 .ensures) (c .before .limit4 .ensures)
 
 pub fits-spec : {M : Type 1} → statement M
 fits-spec =

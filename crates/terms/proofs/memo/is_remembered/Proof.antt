@@ -2,8 +2,8 @@
 use mathlib.Core.Path.{_∙_}
 use borrow.Author.Needs.{needs}
 use borrow.Author.Tests.{eqb-true}
-use Rattle.terms.proofs.held.is_held.Statement.{statement}
-use Rattle.terms.proofs.held.is_held.Tie as tie
+use Rattle.terms.proofs.memo.is_remembered.Statement.{statement}
+use Rattle.terms.proofs.memo.is_remembered.Tie as tie
 
 place-requires : tie.Need-place-requires
 place-requires c κs = search needs
@@ -20,6 +20,6 @@ code-requires c κs = search needs
 returns : tie.Need-returns
 returns c = λ h. (c .before .before .place .result, eqb-true _ _ h ∙ c .code .ensures)
 
-pub is-held-spec : {M : Type 1} → statement M
-is-held-spec =
+pub is-remembered-spec : {M : Type 1} → statement M
+is-remembered-spec =
     tie.close (tie.spec place-requires mul-result element-copy-out-result code-requires returns)

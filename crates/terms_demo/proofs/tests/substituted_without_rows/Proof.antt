@@ -3,8 +3,8 @@ use mathlib.Core.Path.{refl}
 use native.Mathlib.Omega.{arith}
 use Rattle.terms_demo.proofs.InTable.{in-table}
 use borrow.Author.Needs.{needs}
-use Rattle.terms_demo.proofs.tests.put_without_rows.Statement.{statement}
-use Rattle.terms_demo.proofs.tests.put_without_rows.Tie as tie
+use Rattle.terms_demo.proofs.tests.substituted_without_rows.Statement.{statement}
+use Rattle.terms_demo.proofs.tests.substituted_without_rows.Tie as tie
 
 is-substituted-requires : tie.Need-is-substituted-requires
 is-substituted-requires c κs = (in-table _ (c .before .pre) refl refl, omega arith)
@@ -51,8 +51,8 @@ write-answers-requires c κs = search needs
 returns : tie.Need-returns
 returns c = search needs
 
-pub put-without-rows-spec : {M : Type 1} → statement M
-put-without-rows-spec =
+pub substituted-without-rows-spec : {M : Type 1} → statement M
+substituted-without-rows-spec =
     tie.close
     (tie.spec
     is-substituted-requires

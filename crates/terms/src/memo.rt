@@ -3,7 +3,7 @@
 ghost use mathlib.Core.Path.{_≡_};
 ghost use mathlib.Core.Bool.{true};
 ghost use Prim.Native.Nat.{_+_, _*_, _<_, _≤_};
-ghost use Rattle.terms.specs.Held.{code as codeOf, Stands, Stored};
+ghost use Rattle.terms.specs.Memo.{code as codeOf, InMemo, Remembers};
 
 // The word that a comparison takes: near rows, and near counts of binders, take different words. A walk that held so
 // far met one `u` for each `t` and `k`, so `u` adds nothing.
@@ -23,19 +23,19 @@ fn code(k: usize, t: usize, u: usize) -> usize
 }
 
 // Is the comparison remembered?
-pub fn is_held(held: &[usize; 64], k: usize, t: usize, u: usize) -> bool
+pub fn is_remembered(memo: &[usize; 64], k: usize, t: usize, u: usize) -> bool
     requires { ⌜ (k ≤ 65536) × (t < 4096) × (u < 4096) ⌝ }
-    ensures { λ r. ⌜ (r ≡ true → Stands (now (held .entry)) k t u) ⌝ }
+    ensures { λ r. ⌜ (r ≡ true → InMemo (now (memo .entry)) k t u) ⌝ }
 {
     let i = place(k, t);
-    held[i] == code(k, t, u)
+    memo[i] == code(k, t, u)
 }
 
 // Remembers the comparison.
-pub fn hold(held: &mut [usize; 64], k: usize, t: usize, u: usize)
+pub fn remember(memo: &mut [usize; 64], k: usize, t: usize, u: usize)
     requires { ⌜ (k ≤ 65536) × (t < 4096) × (u < 4096) ⌝ }
-    ensures { λ _. ⌜ Stored (now (held .entry)) (now (held .exit)) k t u ⌝ }
+    ensures { λ _. ⌜ Remembers (now (memo .entry)) (now (memo .exit)) k t u ⌝ }
 {
     let i = place(k, t);
-    held[i] = code(k, t, u);
+    memo[i] = code(k, t, u);
 }

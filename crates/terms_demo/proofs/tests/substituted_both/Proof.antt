@@ -3,8 +3,8 @@ use mathlib.Core.Path.{refl}
 use native.Mathlib.Omega.{arith}
 use Rattle.terms_demo.proofs.InTable.{in-table}
 use borrow.Author.Needs.{needs}
-use Rattle.terms_demo.proofs.tests.put_both.Statement.{statement}
-use Rattle.terms_demo.proofs.tests.put_both.Tie as tie
+use Rattle.terms_demo.proofs.tests.substituted_both.Statement.{statement}
+use Rattle.terms_demo.proofs.tests.substituted_both.Tie as tie
 
 is-both-requires : tie.Need-is-both-requires
 is-both-requires c κs = (in-table _ (c .before .pre) refl refl, omega arith)
@@ -48,8 +48,8 @@ write-answers-requires c κs = search needs
 returns : tie.Need-returns
 returns c = search needs
 
-pub put-both-spec : {M : Type 1} → statement M
-put-both-spec =
+pub substituted-both-spec : {M : Type 1} → statement M
+substituted-both-spec =
     tie.close
     (tie.spec
     is-both-requires

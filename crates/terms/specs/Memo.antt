@@ -11,13 +11,13 @@ abbrev pub code : ℕ → ℕ → ℕ → ℕ
 code k t u = (k * 4096 + t) * 4096 + u + 1
 
 -- some word of the memory is the comparison
-abbrev pub Stands : List ℕ → ℕ → ℕ → ℕ → Type 0
-Stands held k t u = (i : ℕ) × (getD held i 0 ≡ code k t u)
+abbrev pub InMemo : List ℕ → ℕ → ℕ → ℕ → Type 0
+InMemo memo k t u = (i : ℕ) × (getD memo i 0 ≡ code k t u)
 
 -- the comparison is written into one word, and the others stay
-abbrev pub Stored : List ℕ → List ℕ → ℕ → ℕ → ℕ → Type 0
-Stored old new k t u = (i : ℕ) × (new ≡ set old i (code k t u))
+abbrev pub Remembers : List ℕ → List ℕ → ℕ → ℕ → ℕ → Type 0
+Remembers old new k t u = (i : ℕ) × (new ≡ set old i (code k t u))
 
 -- every comparison in the memory holds for the images under F
-pub record Held (bytes : List ℕ) (F : ℕ → Term → Term) (held : List ℕ) : Type 0 where
-  pub fact : (k t u : ℕ) → t < 4096 → u < 4096 → Stands held k t u → term bytes u ≡ F k (term bytes t)
+pub record MemoHolds (bytes : List ℕ) (F : ℕ → Term → Term) (memo : List ℕ) : Type 0 where
+  pub fact : (k t u : ℕ) → t < 4096 → u < 4096 → InMemo memo k t u → term bytes u ≡ F k (term bytes t)

@@ -10,8 +10,8 @@ use lib.ListN.{getD, set, replicate}
 use Rattle.terms.specs.Term.{Term}
 use Rattle.terms.specs.Decides.{Decides}
 use Rattle.terms.specs.Rows.{term}
-use Rattle.terms.specs.Table.{Given}
-use Rattle.terms.specs.Held.{code, Stands, Stored, Held}
+use Rattle.terms.specs.Table.{RowsInTable}
+use Rattle.terms.specs.Memo.{code, InMemo, Remembers, MemoHolds}
 use Rattle.terms.proofs.Tests.{says-yes, says-no, refuted}
 
 -- the last digit to the base 4096, and the number before it
@@ -38,23 +38,23 @@ set-either (y ∷ old) (suc i) zero x = inl refl
 set-either (y ∷ old) (suc i) (suc j) x = set-either old i j x
 
 -- what a walk compares has a number that fits
-pub code-bounds : (bytes rest : List ℕ) (k t u : ℕ) → Given bytes (t ∷ u ∷ rest) → k + 2 * t ≤ 65536 → (k ≤ 65536) × (t < 4096) × (u < 4096)
+pub code-bounds : (bytes rest : List ℕ) (k t u : ℕ) → RowsInTable bytes (t ∷ u ∷ rest) → k + 2 * t ≤ 65536 → (k ≤ 65536) × (t < 4096) × (u < 4096)
 code-bounds bytes rest k t u g h = (omega arith, omega (arith, g .few, g .below .0), omega (arith, g .few, g .below .1 .0))
 
 module _ (bytes : List ℕ) (F : ℕ → Term → Term) where
-  pub held-none : (n : ℕ) → Held bytes F (replicate n 0)
-  held-none n = record { fact = λ k t u p q s. absurd (omega (arith, s .1, all-zero n (s .0))) }
+  pub memo-none : (n : ℕ) → MemoHolds bytes F (replicate n 0)
+  memo-none n = record { fact = λ k t u p q s. absurd (omega (arith, s .1, all-zero n (s .0))) }
 
   -- the ways out of a walk that remembers
-  module _ (rest : List ℕ) (k t u : ℕ) (g : Given bytes (t ∷ u ∷ rest)) (fits : k + 2 * t ≤ 65536) where
+  module _ (rest : List ℕ) (k t u : ℕ) (g : RowsInTable bytes (t ∷ u ∷ rest)) (fits : k + 2 * t ≤ 65536) where
     -- the comparison is remembered
-    pub held-hit : (held : List ℕ) → Held bytes F held → (r : Bool) → (r ≡ true → Stands held k t u) → r ≡ true → Decides true (term bytes u ≡ F k (term bytes t)) × Held bytes F held
-    held-hit held h r s e = let low = code-bounds bytes rest k t u g fits in (says-yes (h .fact k t u (low .1) (low .2) (s e)), h)
+    pub memo-hit : (memo : List ℕ) → MemoHolds bytes F memo → (r : Bool) → (r ≡ true → InMemo memo k t u) → r ≡ true → Decides true (term bytes u ≡ F k (term bytes t)) × MemoHolds bytes F memo
+    memo-hit memo h r s e = let low = code-bounds bytes rest k t u g fits in (says-yes (h .fact k t u (low .1) (low .2) (s e)), h)
 
     -- it holds, and is stored
-    pub held-more : (old new : List ℕ) → Held bytes F old → (r : Bool) → Decides r (term bytes u ≡ F k (term bytes t)) → r ≡ true → Stored old new k t u → Decides true (term bytes u ≡ F k (term bytes t)) × Held bytes F new
-    held-more old new h r d e s =
-        (says-yes (d .0 e), subst (Held bytes F) (sym (s .1)) (record { fact = λ l v w p q f. ⊎-elim (λ o. h .fact l v w p q (f .0, sym o ∙ f .1)) (λ o. stored l v w p q (sym o ∙ f .1)) (set-either old (s .0) (f .0) (code k t u)) }))
+    pub memo-more : (old new : List ℕ) → MemoHolds bytes F old → (r : Bool) → Decides r (term bytes u ≡ F k (term bytes t)) → r ≡ true → Remembers old new k t u → Decides true (term bytes u ≡ F k (term bytes t)) × MemoHolds bytes F new
+    memo-more old new h r d e s =
+        (says-yes (d .0 e), subst (MemoHolds bytes F) (sym (s .1)) (record { fact = λ l v w p q f. ⊎-elim (λ o. h .fact l v w p q (f .0, sym o ∙ f .1)) (λ o. stored l v w p q (sym o ∙ f .1)) (set-either old (s .0) (f .0) (code k t u)) }))
       where
         stored : (l v w : ℕ) → v < 4096 → w < 4096 → code k t u ≡ code l v w → term bytes w ≡ F l (term bytes v)
         stored l v w p q f =
@@ -63,5 +63,5 @@ module _ (bytes : List ℕ) (F : ℕ → Term → Term) where
             (λ i. term bytes (sym (same .2) i)) ∙ d .0 e ∙ (λ i. F (same .0 i) (term bytes (same .1 i)))
 
     -- it does not hold
-    pub held-same : (held : List ℕ) → Held bytes F held → (r : Bool) → Decides r (term bytes u ≡ F k (term bytes t)) → r ≡ false → Decides false (term bytes u ≡ F k (term bytes t)) × Held bytes F held
-    held-same held h r d e = (says-no (refuted r d e), h)
+    pub memo-same : (memo : List ℕ) → MemoHolds bytes F memo → (r : Bool) → Decides r (term bytes u ≡ F k (term bytes t)) → r ≡ false → Decides false (term bytes u ≡ F k (term bytes t)) × MemoHolds bytes F memo
+    memo-same memo h r d e = (says-no (refuted d e), h)
