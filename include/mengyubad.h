@@ -2,9 +2,9 @@
  * Mengyubad: admission of derivation sheets, finding and withdrawal of a line, marking of normal terms, day numbers and
  * reading windows.
  *
- * Link libmengyubad.a (`rt staticlib mengyubad` writes it to target/staticlib; x86-64). What each function answers and leaves in the
- * buffers is proved: the contracts stand in crates/mengyubad/src/lib.rt, and the comments here say them in words. docs/FORMAT.md
- * describes sheets, normal terms and dates.
+ * Link libmengyubad.a (`rt staticlib mengyubad` writes it to target/staticlib; x86-64). What each function answers and
+ * leaves in the buffers is proved: the contracts stand in crates/mengyubad/src/lib.rt, and the comments here say them
+ * in words. docs/FORMAT.md describes sheets, of editions 1 and 2, normal terms and dates.
  *
  * What C owes: no pointer is null, even where its length is 0; each points to as many elements as its length says; a
  * buffer that is written overlaps no other; MENGYUBAD_STACK_BYTES of stack are free. Any bytes, lengths and numbers may
@@ -12,7 +12,7 @@
  *
  * Stack: terms are walked by recursion, at most 3,072 levels deep. Measured on admission, which the other functions on
  * sheets begin with, by tests/c/stack.c: a level takes 240 bytes where a term is substituted in and fewer where it is
- * raised, and the rest 12.6 KB, so that 3,072 levels take 750 KB. The deepest walk of a sheet that it builds, some
+ * raised, and the rest 12.7 KB, so that 3,072 levels take 750 KB. The deepest walk of a sheet that it builds, some
  * 2,030 levels, takes 452 KB. A normal term of 3,072 levels is marked in 642 KB, measured there too. The two functions
  * on dates walk no terms and need little stack.
  *
@@ -22,8 +22,8 @@
  *           mengyubad_window: 1 for open or 0 for closed, 0, 0
  *   1 to 17 the place, 0, 0
  *
- * The work buffer takes the sizes of the terms, one word each; MENGYUBAD_MOST_TERMS words serve every sheet. What it held does not
- * matter. Afterwards:
+ * The work buffer takes the sizes of the terms, one word each; MENGYUBAD_MOST_TERMS words serve every sheet. What it
+ * held does not matter. Afterwards:
  *   refusals 1 to 4           all of it is as it was
  *   refusals 5 to 7 at term k its first k words are the sizes of terms 0 to k - 1
  *   otherwise                 its first T words are the sizes of all terms
@@ -52,14 +52,16 @@ enum { MENGYUBAD_STACK_BYTES = 786432 };
 enum mengyubad_number {
     MENGYUBAD_OK = 0,
     MENGYUBAD_LENGTH = 1,           /* length under 16 or over 52,240: 0 */
-    MENGYUBAD_MARK = 2,             /* mark or edition wrong: 0 */
+    MENGYUBAD_MARK = 2,             /* wrong mark, or an edition that is not defined, 1 and 2 being defined: 0 */
     MENGYUBAD_COUNTS = 3,           /* a count over its limit, or distances or length disagree with the counts: 0 */
     MENGYUBAD_WORK_SHORT = 4,       /* work buffer under T words: 0 */
     MENGYUBAD_TERM = 5,             /* term row breaks tag, operand or range: the term */
     MENGYUBAD_TERM_REPEATED = 6,    /* term row equals an earlier one: the term */
     MENGYUBAD_TERM_SIZE = 7,        /* size over 65,535: the term */
     MENGYUBAD_CONTEXT = 8,          /* context row: parent, type number or repetition: the context, from 1 on */
-    MENGYUBAD_LINE = 9,             /* form, rule, range, unused field, or a premise not earlier: the line */
+    MENGYUBAD_LINE = 9,             /* form, rule not of the edition (1: 1 to 43, 2: 1 to 67), range, form 4 to 6
+                                       (rules 44 to 67) outside context 0, unused field, or a premise not earlier:
+                                       the line */
     MENGYUBAD_NO_INSTANCE = 10,     /* line is no instance of its rule: the line */
     MENGYUBAD_NO_LINE = 11,         /* withdrawal, no such line: the number given */
     MENGYUBAD_LINE_USED = 12,       /* withdrawal, a later line uses it as a premise: the lowest such line */
@@ -74,19 +76,20 @@ enum mengyubad_number {
 size_t mengyubad_admit(const uint8_t *sheet, size_t sheet_length, uint32_t *work, size_t work_words, size_t values[3]);
 
 /*
- * Admits a sheet, then finds the lowest line whose form, context, s1, s2 and s3 are the five numbers wanted, as they stand in the
- * sheet. Returns 0, 1 to 10, or 14.
+ * Admits a sheet, then finds the lowest line whose form (0 to 6), context, s1, s2 and s3 are the five numbers wanted,
+ * as they stand in the sheet. Returns 0, 1 to 10, or 14.
  */
-size_t mengyubad_find(const uint8_t *sheet, size_t sheet_length, uint32_t *work, size_t work_words, const uint32_t wanted[5],
-                      size_t values[3]);
+size_t mengyubad_find(const uint8_t *sheet, size_t sheet_length, uint32_t *work, size_t work_words,
+                      const uint32_t wanted[5], size_t values[3]);
 
 /*
- * Admits a sheet, then writes it to `out` without line `line`: premises above the line are lowered by 1, the count of lines and the
- * three distances are lowered. Returns 0, 1 to 10, or 11 to 13. The new sheet is the output up to the new length, which is 20 below
- * the old length; bytes of `out` beyond it are as they were, and on any refusal so is all of `out`.
+ * Admits a sheet, then writes it to `out` without line `line`: premises above the line are lowered by 1, the count of
+ * lines and the three distances are lowered; the edition stays. Returns 0, 1 to 10, or 11 to 13. The new sheet is the
+ * output up to the new length, which is 20 below the old length; bytes of `out` beyond it are as they were, and on any
+ * refusal so is all of `out`.
  */
-size_t mengyubad_withdraw(const uint8_t *sheet, size_t sheet_length, size_t line, uint32_t *work, size_t work_words, uint8_t *out,
-                          size_t out_length, size_t values[3]);
+size_t mengyubad_withdraw(const uint8_t *sheet, size_t sheet_length, size_t line, uint32_t *work, size_t work_words,
+                          uint8_t *out, size_t out_length, size_t values[3]);
 
 /*
  * Admits a sheet, then says whether the term with number `term` is normal. Lambda, pair, Pi, Sigma, succ, universe, Nat

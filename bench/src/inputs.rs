@@ -133,6 +133,11 @@ pub fn single() -> Vec<Input> {
         ("induction steps, large motive", sheets::induction_steps),
     ];
     all.extend(trees.map(|(name, build)| admit(name, build(LARGEST, 3072, 1024))));
+    all.push(admit("normalisation", sheets::normalisation(3072, 1024)));
+    all.push(admit(
+        "normalisation steps, open tree",
+        sheets::normalisation_steps(3072, 1024),
+    ));
     all.extend(normal_terms());
     all
 }

@@ -22,7 +22,23 @@ fn entries(folder: &Path) -> impl Iterator<Item = PathBuf> {
     entries.map(|entry| entry.expect("an entry").path())
 }
 
-/// All sample sheets, those in folders of their own among them.
+/// The sheets of the bundle, which stand one behind the other, with the lines of its list: name and length.
+fn bundled() -> Vec<(String, Vec<u8>)> {
+    let bundle = sample("normalisation.sheets");
+    let list = String::from_utf8(sample("normalisation.list")).expect("a list");
+    let mut left = &bundle[..];
+    let mut sheets = Vec::new();
+    for line in list.lines() {
+        let length = line.split(' ').nth(1).expect("a length");
+        let (sheet, behind) = left.split_at(length.parse().expect("a number"));
+        sheets.push((line.to_string(), sheet.to_vec()));
+        left = behind;
+    }
+    assert!(left.is_empty());
+    sheets
+}
+
+/// All sample sheets, those in folders of their own and in the bundle among them.
 fn samples() -> Vec<Vec<u8>> {
     let data = folder().join("data");
     let inner = entries(&data).filter(|path| path.is_dir());
@@ -30,27 +46,35 @@ fn samples() -> Vec<Vec<u8>> {
     let sheets = paths.filter(|path| path.extension().is_some_and(|e| e == "sheet"));
     sheets
         .map(|path| fs::read(path).expect("a sheet"))
+        .chain(bundled().into_iter().map(|(_, sheet)| sheet))
         .collect()
 }
 
-/// The parts of the list of answers, in their order: on sheets and their lines, on dates, on terms.
+/// The parts of the list of answers, in their order: on sheets and their lines, on dates, on terms, on the bundle.
 pub enum Part {
     Sheets,
     Dates,
     Terms,
+    Bundle,
 }
 
-/// The lines of a part. Dates have hyphens; names of sheets have none.
+/// The lines of a part. Dates have hyphens; names of sheets have none, and those of the bundle no ending.
 pub fn listed(part: Part) -> Vec<String> {
     let text = fs::read_to_string(folder().join("stdout")).expect("the list of answers");
     let lines: Vec<String> = text.lines().map(String::from).collect();
     let on_date = |line: &String| line.contains('-');
     let first = lines.iter().position(on_date).expect("a date");
     let behind = 1 + lines.iter().rposition(on_date).expect("a date");
+    let on_file = |line: &String| line.contains(".sheet ");
+    let bundle = 1 + lines
+        .iter()
+        .rposition(on_file)
+        .expect("a sheet of its own file");
     match part {
         Part::Sheets => lines[..first].to_vec(),
         Part::Dates => lines[first..behind].to_vec(),
-        Part::Terms => lines[behind..].to_vec(),
+        Part::Terms => lines[behind..bundle].to_vec(),
+        Part::Bundle => lines[bundle..].to_vec(),
     }
 }
 
@@ -101,7 +125,8 @@ fn asked(numbers: &[usize]) -> (Call, usize, usize) {
     }
 }
 
-/// A line of the list is a sheet, what is asked of it, and the answer. A line that is an answer only is that to the sheet written last.
+/// A line of the list is a sheet, what is asked of it, and the answer. A line that is an answer only is that to the
+/// sheet written last.
 #[test]
 fn samples_are_answered_as_listed() {
     let mut checker = Checker::new();
@@ -141,6 +166,18 @@ fn terms_are_answered_as_listed() {
             refusal => printed(refusal, 1),
         };
         assert_eq!(said, words[2..].join(" "), "{line}");
+    }
+}
+
+/// A line of the list is a name, a length and the answer.
+#[test]
+fn the_bundle_is_answered_as_listed() {
+    let mut checker = Checker::new();
+    let (lines, sheets) = (listed(Part::Bundle), bundled());
+    assert_eq!(lines.len(), sheets.len());
+    for (line, (name, sheet)) in lines.iter().zip(sheets) {
+        let (answer, _) = alike(&mut checker, &sheet, Call::Admit, 3072, 0);
+        assert_eq!(*line, format!("{name} {}", printed(answer, 3)));
     }
 }
 
@@ -204,6 +241,7 @@ fn damaged_sheets_are_answered_alike() {
     all.push(sheets::deep_binders(20, 8));
     all.push(sheets::beta_steps(4, 0, 400));
     all.push(sheets::induction_steps(4, 0, 400));
+    all.push(sheets::normalisation(0, 200));
     let mut checker = Checker::new();
     let mut answered = [0; 18];
     for round in 0..40_000 {

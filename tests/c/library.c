@@ -1,6 +1,7 @@
 /*
  * Calls the library from C: admits S, finds a judgment, withdraws lines, marks normal terms, numbers days and asks
- * windows. Prints nothing if all is as document 01 says, and for dates and normal terms document 02, A1 and A2.
+ * windows. Prints nothing if all is as document 01 says, and for dates, normal terms and editions document 02, A1, A2
+ * and A5.
  */
 #include <inttypes.h>
 #include <stdio.h>
@@ -42,10 +43,10 @@ static void put_word(uint8_t **at, unsigned word)
     *(*at)++ = (uint8_t)(word / 256);
 }
 
-static void put_trailer(uint8_t **at, unsigned terms, unsigned contexts, unsigned lines)
+static void put_trailer(uint8_t **at, unsigned terms, unsigned contexts, unsigned lines, unsigned edition)
 {
     const unsigned to_lines = 20 * lines, to_contexts = to_lines + 4 * contexts, to_terms = to_contexts + 10 * terms;
-    const unsigned trailer[] = {terms, contexts, lines, 1, to_terms, to_contexts, to_lines, 0x4C44};
+    const unsigned trailer[] = {terms, contexts, lines, edition, to_terms, to_contexts, to_lines, 0x4C44};
     for (size_t i = 0; i < 8; i++)
         put_word(at, trailer[i]);
 }
@@ -63,7 +64,7 @@ static size_t sample(uint8_t *sheet, unsigned lines)
     uint8_t *at = sheet;
     for (size_t i = 0; i < 27 + 10 * (size_t)lines; i++)
         put_word(&at, rows[i]);
-    put_trailer(&at, 5, 1, lines);
+    put_trailer(&at, 5, 1, lines, 1);
     return (size_t)(at - sheet);
 }
 
@@ -80,6 +81,31 @@ static void admits(const uint8_t *s)
     expect("S", mengyubad_admit(s, S_BYTES, work, WORDS, values), values, MENGYUBAD_OK, 5, 1, 5);
     expect_same("work after S", work, sizes, sizeof work);
     expect("15 bytes", mengyubad_admit(s, 15, work, WORDS, values), values, MENGYUBAD_LENGTH, 0, 0, 0);
+}
+
+/* A bare trailer. */
+static void admits_editions(void)
+{
+    static const struct {
+        const char *what;
+        unsigned edition;
+        size_t number;
+    } cases[] = {
+        {"edition 0", 0, MENGYUBAD_MARK},
+        {"edition 1", 1, MENGYUBAD_OK},
+        {"edition 2", 2, MENGYUBAD_OK},
+        {"edition 3", 3, MENGYUBAD_MARK}
+    };
+    for (size_t i = 0; i < sizeof cases / sizeof *cases; i++) {
+        uint8_t sheet[16], *at = sheet;
+        uint32_t work[WORDS];
+        size_t values[3] = {9, 9, 9};
+        memcpy(work, poison, sizeof work);
+        put_trailer(&at, 0, 0, 0, cases[i].edition);
+        const size_t number = mengyubad_admit(sheet, sizeof sheet, work, WORDS, values);
+        expect(cases[i].what, number, values, cases[i].number, 0, 0, 0);
+        expect_same(cases[i].what, work, poison, sizeof work);
+    }
 }
 
 static void finds(const uint8_t *s)
@@ -173,7 +199,7 @@ static void marks_normal_alone(void)
     uint32_t left[TERMS + 1] = {[TERMS] = 7};
     for (size_t i = 0; i < 5 * TERMS; i++)
         put_word(&at, terms[i / 5].row[i % 5]);
-    put_trailer(&at, TERMS, 0, 0);
+    put_trailer(&at, TERMS, 0, 0, 1);
     for (size_t term = 0; term < TERMS; term++)
         left[term] = terms[term].size;
     for (size_t term = 0; term < TERMS; term++) {
@@ -256,6 +282,7 @@ int main(void)
     uint8_t s[S_BYTES];
     expect_length("S", sample(s, 5), S_BYTES);
     admits(s);
+    admits_editions();
     finds(s);
     withdraws(s);
     marks_normal(s);

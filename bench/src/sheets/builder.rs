@@ -143,7 +143,9 @@ impl Builder {
         let to_lines = 20 * l;
         let to_contexts = 4 * c + to_lines;
         let to_terms = 10 * t + to_contexts;
-        let trailer = [t, c, l, 1, to_terms, to_contexts, to_lines, 0x4C44];
+        let later = self.lines.iter().any(|line| line[1] > 43);
+        let edition = if later { 2 } else { 1 };
+        let trailer = [t, c, l, edition, to_terms, to_contexts, to_lines, 0x4C44];
         let rows = self.rows.iter().flatten();
         let contexts = self.contexts.iter().flatten();
         let lines = self.lines.iter().flatten();

@@ -4,6 +4,8 @@ mod builder;
 mod deep;
 mod heads;
 mod normal;
+mod normal_steps;
+mod normalisation;
 mod plausible;
 mod shared;
 mod steps;
@@ -13,6 +15,7 @@ mod trees;
 pub use deep::{deep_binders, deep_context};
 pub use heads::equal_heads;
 pub use normal::{doubled_pairs, nested_arguments, nested_motives, shared_function};
+pub use normalisation::{normalisation, normalisation_steps};
 pub use plausible::{plausible, typical};
 pub use trees::{applications, beta_steps, induction_steps, large_nodes};
 

@@ -1,5 +1,5 @@
-//! Sheets as a depositor might write them: addition defined by induction, sums computed, types converted along them, pairs and the
-//! polymorphic identity, each in contexts of some length.
+//! Sheets as a depositor might write them: addition defined by induction, sums computed, types converted along them,
+//! pairs and the polymorphic identity, each in contexts of some length.
 
 use super::builder::{children, Builder};
 use super::shared::{numeral, with_family, with_number, Sums};
@@ -186,7 +186,7 @@ pub fn plausible(terms: usize, contexts: usize, lines: usize) -> Vec<u8> {
 }
 
 /// Adds terms over the rows that are there, taken at random.
-fn fill_terms(b: &mut Builder, terms: usize) {
+pub fn fill_terms(b: &mut Builder, terms: usize) {
     let mut random = Random::new(0x2545_F491_4F6C_DD1D);
     while b.terms_used() < terms {
         let (words, size) = some_row(b, &mut random);

@@ -1,4 +1,5 @@
-//! Sheets with few rows that spell large trees, on whose lines a checker that walks trees visits nearly 65,535 nodes again and again.
+//! Sheets with few rows that spell large trees, on whose lines a checker that walks trees visits nearly 65,535 nodes
+//! again and again.
 
 use super::builder::Builder;
 use super::shared::{family_and_number, numbers, section, with_number, Sums};
@@ -21,7 +22,7 @@ fn pairs(count: usize) -> impl Iterator<Item = (usize, usize)> {
 }
 
 /// Brings the terms to `terms` rows, by variables with the greatest indices, and the lines to `lines`.
-fn filled(mut b: Builder, terms: usize, lines: usize) -> Vec<u8> {
+pub fn filled(mut b: Builder, terms: usize, lines: usize) -> Vec<u8> {
     b.keep_lines(lines);
     let mut index = 4096;
     while b.terms_used() < terms {
@@ -61,8 +62,8 @@ pub fn applications(doublings: u32, terms: usize, lines: usize) -> Vec<u8> {
     filled(b, terms, lines)
 }
 
-/// E-APPABS: lines (lambda t_i) a_j = t_i[a_j] : B[a_j], where t_i and B have a large number with index 0 as its last leaf. Two
-/// walks for each line.
+/// E-APPABS: lines (lambda t_i) a_j = t_i[a_j] : B[a_j], where t_i and B have a large number with index 0 as its last
+/// leaf. Two walks for each line.
 pub fn beta_steps(doublings: u32, terms: usize, lines: usize) -> Vec<u8> {
     let mut b = Builder::default();
     let base = family_and_number(&mut b);

@@ -33,7 +33,7 @@ impl Tables {
     }
 
     /// Are both subjects of `c` the node of this tag over those of `p`?
-    fn ones(&self, tag: u16, c: &Line, p: &Line) -> bool {
+    pub(super) fn ones(&self, tag: u16, c: &Line, p: &Line) -> bool {
         self.is_one(c.s1, tag, p.s1) && self.is_one(c.s2, tag, p.s2)
     }
 

@@ -43,7 +43,8 @@ impl Tables {
             2 => self.wf_cons(c, premises[1]),
             3..=16 => self.typing(c, premises),
             17..=34 => self.equality(n, c, premises),
-            _ => self.subtyping(c, premises),
+            35..=43 => self.subtyping(c, premises),
+            _ => self.normalisation(n, c, premises),
         }
     }
 

@@ -1,8 +1,9 @@
 //! The trailer, and what it says of the tables (numbers 1 to 4).
 
-/// How many terms, contexts and lines a sheet has.
+/// How many terms, contexts and lines a sheet has, and its edition.
 #[derive(Clone, Copy)]
 pub struct Counts {
+    pub edition: usize,
     pub terms: usize,
     pub contexts: usize,
     pub lines: usize,
@@ -32,10 +33,11 @@ pub fn read(sheet: &[u8], work: usize) -> Result<Counts, usize> {
     }
     let trailer = sheet.last_chunk::<16>().ok_or(1usize)?;
     let word = |j: usize| usize::from(u16::from_le_bytes([trailer[2 * j], trailer[2 * j + 1]]));
-    if word(7) != 0x4C44 || word(3) != 1 {
+    if word(7) != 0x4C44 || !(1..=2).contains(&word(3)) {
         return Err(2);
     }
     let counts = Counts {
+        edition: word(3),
         terms: word(0),
         contexts: word(1),
         lines: word(2),

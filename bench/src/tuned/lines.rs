@@ -1,5 +1,6 @@
 //! Lines, and the check of their own fields (number 9).
 
+use super::layout::Counts;
 use super::table::RULES;
 
 pub const ROOM: usize = 1024;
@@ -32,18 +33,26 @@ impl Line {
 
     /// Number 9 at line `n`: are form, rule and numbers in range, and unused fields 0?
     #[inline(always)]
-    pub fn fits(&self, n: usize, terms: usize, contexts: usize) -> bool {
+    pub fn fits(&self, n: usize, counts: &Counts) -> bool {
         let Some(rule) = RULES.get(usize::from(self.rule)) else {
             return false;
         };
-        if rule.form != self.form || usize::from(self.context) > contexts {
+        if self.rule == 0 || rule.form != self.form {
             return false;
         }
+        if usize::from(self.context) > counts.contexts {
+            return false;
+        }
+        // Rules 44 to 67 conclude forms 4 to 6, which stand in context 0.
+        if self.form >= 4 && (counts.edition == 1 || self.context != 0) {
+            return false;
+        }
+        let terms = counts.terms;
         let below = |number: u16, used: bool, limit: usize| {
             usize::from(number) < if used { limit } else { 1 }
         };
         below(self.s1, self.form >= 1, terms)
-            && below(self.s2, self.form >= 2, terms)
+            && below(self.s2, matches!(self.form, 2 | 3 | 6), terms)
             && below(self.s3, self.form == 1 || self.form == 2, terms)
             && (0..4).all(|j| below(self.premises[j], j < rule.count, n))
     }

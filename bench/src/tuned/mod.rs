@@ -10,6 +10,7 @@ mod instances;
 mod layout;
 mod lines;
 mod memo;
+mod normalisation;
 mod normality;
 mod rows;
 mod subtyping;
@@ -95,7 +96,7 @@ impl Checker {
         self.tables.memo.start();
         for (n, words) in bytes.chunks_exact(20).enumerate() {
             let line = Line::read(words.try_into().expect("twenty bytes"));
-            if !line.fits(n, counts.terms, counts.contexts) {
+            if !line.fits(n, &counts) {
                 return Err((9, n));
             }
             if !self.tables.follows(n, &line, &self.lines) {

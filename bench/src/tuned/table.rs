@@ -30,9 +30,12 @@ const TYPED_2: (u16, u8) = (1, 2);
 const EQUAL_1: (u16, u8) = (2, 1);
 const EQUAL_2: (u16, u8) = (2, 2);
 const BELOW_1: (u16, u8) = (3, 1);
+const NORMAL: (u16, u8) = (4, 0);
+const NEUTRAL: (u16, u8) = (5, 0);
+const STEPS: (u16, u8) = (6, 0);
 
 /// The rules by number; there is no rule 0.
-pub static RULES: [Rule; 44] = [
+pub static RULES: [Rule; 68] = [
     rule(9, &[]),
     rule(0, &[]),
     rule(0, &[WF, TYPED]),
@@ -77,4 +80,28 @@ pub static RULES: [Rule; 44] = [
     rule(3, &[BELOW, EQUAL]),
     rule(3, &[BELOW]),
     rule(3, &[BELOW, EQUAL]),
+    rule(4, &[NORMAL]),
+    rule(4, &[NORMAL, NORMAL]),
+    rule(4, &[NORMAL, NORMAL]),
+    rule(4, &[NORMAL, NORMAL]),
+    rule(4, &[NORMAL]),
+    rule(4, &[]),
+    rule(4, &[NEUTRAL]),
+    rule(4, &[]),
+    rule(4, &[]),
+    rule(4, &[STEPS, NORMAL]),
+    rule(5, &[]),
+    rule(5, &[NEUTRAL, NORMAL]),
+    rule(5, &[NEUTRAL]),
+    rule(5, &[NEUTRAL]),
+    rule(5, &[NORMAL, NEUTRAL, NORMAL, NORMAL]),
+    rule(6, &[NORMAL]),
+    rule(6, &[NORMAL, STEPS]),
+    rule(6, &[NORMAL]),
+    rule(6, &[NORMAL]),
+    rule(6, &[STEPS]),
+    rule(6, &[STEPS]),
+    rule(6, &[NORMAL, NORMAL, NORMAL]),
+    rule(6, &[NORMAL, NORMAL, NORMAL, NORMAL]),
+    rule(6, &[NORMAL, NORMAL, NORMAL, STEPS]),
 ];

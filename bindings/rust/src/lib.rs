@@ -1,5 +1,6 @@
-//! The proved checker, as safe functions. Nothing checks these declarations against the Rattle source: they follow include/mengyubad.h.
-//! A call on a sheet may take up to 768 KiB of stack (MENGYUBAD_STACK_BYTES), so a thread that calls should have more.
+//! The proved checker, as safe functions. Nothing checks these declarations against the Rattle source: they follow
+//! include/mengyubad.h. Sheets are of edition 1 or 2; another edition is refused with number 2. A call on a sheet may
+//! take up to 768 KiB of stack (MENGYUBAD_STACK_BYTES), so a thread that calls should have more.
 
 mod c {
     extern "C" {
@@ -56,7 +57,8 @@ pub struct Answer {
 /// Admits a sheet: the counts T, C, L.
 pub fn admit(sheet: &[u8], work: &mut [u32]) -> Answer {
     let mut values = [0; 3];
-    // SAFETY: the pointers and lengths are those of live slices that do not overlap, and the library keeps none of them.
+    // SAFETY: the pointers and lengths are those of live slices that do not overlap, and the library keeps none of
+    // them.
     let number = unsafe {
         c::mengyubad_admit(
             sheet.as_ptr(),
@@ -69,7 +71,7 @@ pub fn admit(sheet: &[u8], work: &mut [u32]) -> Answer {
     Answer { number, values }
 }
 
-/// Finds the lowest line with form, context, s1, s2, s3.
+/// Finds the lowest line with form, 0 to 6, context, s1, s2, s3.
 pub fn find(sheet: &[u8], work: &mut [u32], wanted: [u32; 5]) -> Answer {
     let mut values = [0; 3];
     // SAFETY: as in `admit`; `wanted` lives until the call returns.

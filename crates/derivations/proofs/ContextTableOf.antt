@@ -39,6 +39,11 @@ pub contextNumber : List Context → Context → ℕ
 contextNumber E [] = 0
 contextNumber E (A ∷ G) = suc (number (list? term?) E (A ∷ G))
 
+-- the empty context has number 0
+pub number-empty : (E : List Context) → contextNumber E [] ≡ 0
+unfolding contextNumber
+number-empty E = refl
+
 -- the context with that number
 pub contextNumbered : List Context → ℕ → Context
 contextNumbered E zero = []

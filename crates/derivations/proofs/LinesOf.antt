@@ -13,16 +13,18 @@ use Rattle.terms.specs.Term.{Term, zer}
 use Rattle.terms.specs.Rows.{term}
 use Rattle.terms.specs.Lists.{AllBelow}
 use Rattle.terms.proofs.Tests.{either}
-use Rattle.rules.specs.Judgment.{Context, Judgment, wf, typed, equal, sub, form, contextOf, s1, s2, s3, term?}
+use Rattle.rules.specs.Judgment.{Context, Judgment, wf, typed, equal, sub, normal, neutral, steps, form, contextOf, s1, s2, s3, term?}
 use Rattle.rules.specs.Subjects.{lastForm, subjectUse, usesSubject, subjectsOf}
 use Rattle.rules.specs.Instance.{Instance}
-use Rattle.rules.specs.RuleTable.{premiseCount}
+use Rattle.rules.specs.RuleTable.{IsRule, premiseCount}
+use Rattle.rules.specs.Editions.{rowIn}
 use Rattle.rules.specs.Contexts.{context}
 use Rattle.rules.specs.Stated.{stated}
 use Rattle.rules.proofs.SubjectLaws.{unused-past, by-place, used-small}
 use Rattle.rules.proofs.TableFitsLaws.{row-fits}
-use Rattle.rules.proofs.TableLaws.{row-agrees}
-use Rattle.rules.proofs.RuleTableEntries.{form-small}
+use Rattle.rules.proofs.TableLaws.{row-agrees, form-small}
+use Rattle.rules.proofs.EmptyContextLaws.{empty-context}
+use Rattle.rules.proofs.EditionLaws.{last-most, row-known}
 use Rattle.sheets.specs.declared.lines.Line.{Line}
 use Rattle.sheets.specs.Lines.{lineWord, lineOf, judgmentOf, premisesOf, citedBy}
 use Rattle.sheets.specs.GoodLines.{LineOk}
@@ -30,18 +32,19 @@ use Rattle.derivations.specs.Lists.{_∈_}
 use Rattle.derivations.specs.Fits.{subjects}
 use Rattle.derivations.proofs.ListLaws.{in-selected, below-at}
 use Rattle.derivations.proofs.Numbering.{number, number-below}
-use Rattle.derivations.proofs.ContextTableOf.{contextNumber, Listed, context-number-most}
+use Rattle.derivations.proofs.ContextTableOf.{contextNumber, number-empty, Listed, context-number-most}
 
--- a line by its ten words
-pub column : Line → ℕ → ℕ
-column l k = getD (l .form ∷ l .rule ∷ l .context ∷ l .s1 ∷ l .s2 ∷ l .s3 ∷ l .p0 ∷ l .p1 ∷ l .p2 ∷ l .p3 ∷ []) k 0
+-- the ten words of a line, one of them the rule's number, for which the edition has the row that the line is judged by
+pub column : ℕ → Line → ℕ → ℕ
+column word l k = getD (l .form ∷ word ∷ l .context ∷ l .s1 ∷ l .s2 ∷ l .s3 ∷ l .p0 ∷ l .p1 ∷ l .p2 ∷ l .p3 ∷ []) k 0
 
-pub line-read : (lines : List ℕ) (n : ℕ) (l : Line) → ((k : ℕ) → k < 10 → lineWord lines n k ≡ column l k) → lineOf lines n ≡ l
+pub line-read : (edition : ℕ) (lines : List ℕ) (n word : ℕ) (l : Line) → rowIn edition word ≡ l .rule
+    → ((k : ℕ) → k < 10 → lineWord lines n k ≡ column word l k) → lineOf edition lines n ≡ l
 unfolding lineOf column
-line-read lines n l h =
+line-read edition lines n word l row h =
     λ i. record {
       form = h 0 (omega arith) i;
-      rule = h 1 (omega arith) i;
+      rule = (ap (rowIn edition) (h 1 (omega arith)) ∙ row) i;
       context = h 2 (omega arith) i;
       s1 = h 3 (omega arith) i;
       s2 = h 4 (omega arith) i;
@@ -52,8 +55,9 @@ line-read lines n l h =
       p3 = h 9 (omega arith) i;
     }
 
--- a line that keeps the layout has small words
-module _ {l : Line} {n T C : ℕ} (ok : LineOk l n T C) (few : n ≤ 1024) (terms : T ≤ 3072) (contexts : C ≤ 256) where
+-- a line that keeps the layout has small words; word is its rule's number
+module _ {l : Line} {n T C : ℕ} (ok : LineOk l n T C) (few : n ≤ 1024) (terms : T ≤ 3072) (contexts : C ≤ 256)
+    (edition word : ℕ) (row : rowIn edition word ≡ l .rule) where
   premise-small : (j : ℕ) → j < 4 → getD (premisesOf l) j 0 < 65536
   premise-small j h =
       elim (decLt j (premiseCount (l .rule))) [
@@ -68,10 +72,12 @@ module _ {l : Line} {n T C : ℕ} (ok : LineOk l n T C) (few : n ≤ 1024) (term
         | inr u ↦ omega (arith, ok .unusedSubject k u)
       ]
 
-  pub line-small : (k : ℕ) → column l k < 65536
+  pub line-small : (k : ℕ) → column word l k < 65536
   unfolding column judgmentOf subjectsOf premisesOf
   line-small zero = omega (arith, ok .numbers .form)
-  line-small (suc zero) = omega (arith, ok .rule .1)
+  line-small (suc zero) =
+      let admitted = row-known edition word .0 (subst IsRule (sym row) (ok .rule)) .1 in
+      omega (arith, admitted, last-most edition)
   line-small (suc (suc zero)) = omega (arith, ok .numbers .within)
   line-small (suc (suc (suc zero))) = subject-small 0
   line-small (suc (suc (suc (suc zero)))) = subject-small 1
@@ -105,6 +111,12 @@ lineFor D E j rule places =
       p2 = getD places 2 0;
       p3 = getD places 3 0;
     }
+
+-- its rule is the row that was given
+pub line-rule : (D : List Term) (E : List Context) (j : Judgment) (rule : ℕ) (places : List ℕ)
+    → rule ≡ lineFor D E j rule places .rule
+unfolding lineFor
+line-rule D E j rule places = refl
 
 abbrev pub SubjectsIn : List Term → Judgment → Type 0
 SubjectsIn D j = (t : Term) → t ∈ subjects j → t ∈ D
@@ -171,8 +183,9 @@ module _ (D : List Term) (E : List Context) {rule : ℕ} {ps : List Judgment} {j
         rule = f .known;
         form = concludes;
         numbers = record {
-          form = subst (λ m. m ≤ lastForm) (sym concludes) (form-small rule _ (f .known) refl);
+          form = subst (λ m. m ≤ lastForm) (sym concludes) (form-small rule (f .known));
           within = context-number-most E (contextOf j) c;
+          empty = λ h. ap (contextNumber E) (empty-context i h) ∙ number-empty E;
           subjects = λ k u. subst (λ r. r < length D) (row-at D j k) (row-below D j s k u);
         };
         unusedSubject = λ k u. sym (row-at D j k) ∙ row-unused D j k u;
@@ -189,3 +202,6 @@ line-states D E b cs (wf G) rule places h c = λ i. wf (c i)
 line-states D E b cs (typed G a A) rule places h c = λ i. typed (c i) (h a (here refl) i) (h A (there (here refl)) i)
 line-states D E b cs (equal G a e A) rule places h c = λ i. equal (c i) (h a (here refl) i) (h e (there (here refl)) i) (h A (there (there (here refl))) i)
 line-states D E b cs (sub G A B) rule places h c = λ i. sub (c i) (h A (here refl) i) (h B (there (here refl)) i)
+line-states D E b cs (normal G a) rule places h c = λ i. normal (c i) (h a (here refl) i)
+line-states D E b cs (neutral G a) rule places h c = λ i. neutral (c i) (h a (here refl) i)
+line-states D E b cs (steps G a e) rule places h c = λ i. steps (c i) (h a (here refl) i) (h e (there (here refl)) i)

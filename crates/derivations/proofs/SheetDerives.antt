@@ -10,7 +10,9 @@ use Rattle.terms.specs.Lists.{AllBelow}
 use Rattle.rules.specs.Judgment.{Judgment, wf}
 use Rattle.rules.specs.Instance.{Instance}
 use Rattle.rules.specs.RuleTable.{premiseCount}
-use Rattle.sheets.specs.Lines.{premisesOf, citedBy, lineAt, statedAt, LineFollows}
+use Rattle.rules.specs.Editions.{rowIn}
+use Rattle.sheets.specs.Layout.{linesIn, editionOf}
+use Rattle.sheets.specs.Lines.{lineWord, lineOf, premisesOf, citedBy, lineAt, statedAt, LineFollows}
 use Rattle.sheets.specs.Good.{Good}
 use Rattle.sheets.proofs.AcceptedLaws.{accepted-good, stated-is}
 use Rattle.derivations.specs.Derivation.{judgmentAt, Derivation}
@@ -35,13 +37,14 @@ module _ {b : List ℕ} {T C L : ℕ} (g : Good b T C L) where
       let m : (j < premiseCount (l .rule)) × (j < 4) = omega (arith, length-take (premiseCount (l .rule)) (premisesOf l)) in
       subst (λ p. p < i) (sym (getD-take (premiseCount (l .rule)) (premisesOf l) j 0 (m .0))) (g .lines i h .ok .earlier j (m .1) (m .0)))
 
-  pub stated-derivation : Derivation (statedBy b)
-  unfolding LineFollows
+  -- the rule's number is the line's word, and its row in the sheet's edition is what the line is judged by
+  pub stated-derivation : Derivation (editionOf b) (statedBy b)
+  unfolding LineFollows lineAt lineOf
   stated-derivation i h =
       let k : i < L = omega (arith, stated-length) in
       let l = lineAt b T C i in
       record {
-        rule = l .rule;
+        rule = lineWord (linesIn b T C) i 1;
         places = citedBy l;
         earlier = cited-earlier i k;
         follows = subst₂ (Instance (l .rule))
@@ -50,15 +53,16 @@ module _ {b : List ℕ} {T C L : ℕ} (g : Good b T C L) where
       }
 
 -- each beginning of a derivation is one
-pub beginning : (js : List Judgment) (n : ℕ) → n ≤ length js → Derivation js → Derivation (take n js)
-beginning js n h d i k =
+pub beginning : (edition : ℕ) (js : List Judgment) (n : ℕ) → n ≤ length js → Derivation edition js
+    → Derivation edition (take n js)
+beginning edition js n h d i k =
     let b : i < n = omega (arith, length-take-le n js h) in
     let s = d i (omega arith) in
     record {
       rule = s .rule;
       places = s .places;
       earlier = s .earlier;
-      follows = subst₂ (Instance (s .rule))
+      follows = subst₂ (Instance (rowIn edition (s .rule)))
           (map-below (judgmentAt js) (judgmentAt (take n js)) i (s .places) (s .earlier) (λ m l. sym (getD-take n js m (wf []) (omega arith))))
           (sym (getD-take n js i (wf []) b)) (s .follows);
     }
@@ -71,7 +75,7 @@ sound-by-lines b a =
       λ i h. (
         take (suc i) (statedBy b),
         record {
-          derivation = beginning (statedBy b) (suc i) h (stated-derivation g);
+          derivation = beginning (editionOf b) (statedBy b) (suc i) h (stated-derivation g);
           before = take i (statedBy b);
           last = take-suc (statedBy b) i (wf []) h;
         },

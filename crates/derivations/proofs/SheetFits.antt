@@ -17,6 +17,7 @@ use Rattle.rules.specs.Subjects.{subjectUse, usesSubject, subjectsOf}
 use Rattle.rules.specs.Contexts.{parentOf, typeOf, context, ContextTable}
 use Rattle.rules.specs.Stated.{plainJudgment, stated}
 use Rattle.rules.proofs.ContextTableLaws.{context-empty, context-step}
+use Rattle.rules.proofs.SubjectLaws.{by-form}
 use Rattle.rules.proofs.ArmLaws.{context-of}
 use Rattle.sheets.specs.Layout.{contextsIn}
 use Rattle.sheets.specs.Lines.{judgmentOf, lineAt, statedAt}
@@ -110,11 +111,9 @@ module _ (b cs : List ℕ) (T C : ℕ) (table : ContextTable cs T C) where
 subjects-with : (f : ℕ) (G : Context) (s t u : Term)
     → subjects (plainJudgment f G s t u) ≡ selected (subjectUse f) (s ∷ t ∷ u ∷ [])
 unfolding plainJudgment subjects
-subjects-with zero G s t u = refl
-subjects-with (suc zero) G s t u = refl
-subjects-with (suc (suc zero)) G s t u = refl
-subjects-with (suc (suc (suc zero))) G s t u = refl
-subjects-with (suc (suc (suc (suc f)))) G s t u = refl
+subjects-with f G s t u =
+    by-form (λ f. subjects (plainJudgment f G s t u) ≡ selected (subjectUse f) (s ∷ t ∷ u ∷ []))
+    refl refl refl refl refl refl refl (λ f. refl) f
 
 module _ {b : List ℕ} {T C L : ℕ} (g : Good b T C L) where
   abbrev cs : List ℕ

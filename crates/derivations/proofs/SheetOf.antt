@@ -1,4 +1,5 @@
--- The sheet of a derivation whose terms and contexts are listed: it is good, and it states the derivation.
+-- The sheet of a derivation whose terms and contexts are listed: it is good, of the derivation's edition, and it states
+-- the derivation.
 -- Assumes nothing.
 use mathlib.Core.Path.{_≡_, sym, _∙_, ap, subst, subst₂}
 use mathlib.Core.List.{List, [], map}
@@ -15,8 +16,9 @@ use Rattle.rules.specs.Judgment.{Context, Judgment, wf, contextOf, term?}
 use Rattle.rules.specs.Instance.{Instance}
 use Rattle.rules.specs.Contexts.{parentOf, typeOf, ContextTable}
 use Rattle.rules.specs.Stated.{stated}
+use Rattle.rules.specs.Editions.{IsEdition, rowIn}
 use Rattle.sheets.specs.declared.lines.Line.{Line}
-use Rattle.sheets.specs.Layout.{contextsIn, linesIn}
+use Rattle.sheets.specs.Layout.{editionOf, contextsIn, linesIn}
 use Rattle.sheets.specs.Lines.{lineWord, judgmentOf, citedBy, lineAt, statedAt, LineFollows}
 use Rattle.sheets.specs.Good.{Good}
 use Rattle.sheets.specs.GoodLines.{LineOk}
@@ -28,12 +30,12 @@ use Rattle.derivations.proofs.Numbering.{number, numbered, numbered-in}
 use Rattle.derivations.proofs.SheetDerives.{stated-length, stated-at}
 use Rattle.derivations.proofs.TermTableOf.{rowWord, row-small, spells-number, term-table}
 use Rattle.derivations.proofs.ContextTableOf.{contextWord, context-small, stands, context-table}
-use Rattle.derivations.proofs.LinesOf.{column, line-read, line-small, lineFor, line-instance, line-ok, line-states}
-use Rattle.derivations.proofs.LayoutOf.{sheetBytes, sheet-length, term-word, context-word, line-word, laid-out, sheet-bytes}
+use Rattle.derivations.proofs.LinesOf.{column, line-read, line-small, lineFor, line-rule, line-instance, line-ok, line-states}
+use Rattle.derivations.proofs.LayoutOf.{sheetBytes, sheet-length, term-word, context-word, line-word, edition-is, laid-out, sheet-bytes}
 use Rattle.derivations.proofs.Listing.{Listing}
 
 -- the rule and the premises' places of judgment n
-module _ (js : List Judgment) (d : Derivation js) where
+module _ (edition : ℕ) (js : List Judgment) (d : Derivation edition js) where
   ruleAt : (n : ℕ) → Dec (n < length js) → ℕ
   ruleAt n (yes h) = d n h .rule
   ruleAt n (no h) = 0
@@ -47,17 +49,23 @@ module _ (js : List Judgment) (d : Derivation js) where
   earlier-at n (yes h) k = d n h .earlier
   earlier-at n (no h) k = absurd (h k)
 
-  follows-at : (n : ℕ) (p : Dec (n < length js)) → n < length js → Instance (ruleAt n p) (map (judgmentAt js) (placesAt n p)) (judgmentAt js n)
+  follows-at : (n : ℕ) (p : Dec (n < length js)) → n < length js
+      → Instance (rowIn edition (ruleAt n p)) (map (judgmentAt js) (placesAt n p)) (judgmentAt js n)
   unfolding ruleAt placesAt
   follows-at n (yes h) k = d n h .follows
   follows-at n (no h) k = absurd (h k)
 
-module _ (js : List Judgment) (d : Derivation js) (D : List Term) (E : List Context) (list : Listing js D E) (short : length js ≤ 1024) where
+module _ (edition : ℕ) (known : IsEdition edition) (js : List Judgment) (d : Derivation edition js)
+    (D : List Term) (E : List Context) (list : Listing js D E) (short : length js ≤ 1024) where
   places : ℕ → List ℕ
-  places n = placesAt js d n (decLt n (length js))
+  places n = placesAt edition js d n (decLt n (length js))
 
+  ruleWord : ℕ → ℕ
+  ruleWord n = ruleAt edition js d n (decLt n (length js))
+
+  -- its row in the edition
   rule : ℕ → ℕ
-  rule n = ruleAt js d n (decLt n (length js))
+  rule n = rowIn edition (ruleWord n)
 
   -- the lines and the words
   line : ℕ → Line
@@ -70,10 +78,10 @@ module _ (js : List Judgment) (d : Derivation js) (D : List Term) (E : List Cont
   contextWords i = contextWord D E (numbered [] E (i / 2)) (i % 2)
 
   pub lineWords : ℕ → ℕ
-  lineWords i = column (line (i / 10)) (i % 10)
+  lineWords i = column (ruleWord (i / 10)) (line (i / 10)) (i % 10)
 
   abbrev pub sheet : List ℕ
-  sheet = sheetBytes (length D) (length E) (length js) termWords contextWords lineWords
+  sheet = sheetBytes edition (length D) (length E) (length js) termWords contextWords lineWords
 
   abbrev T : ℕ
   T = length D
@@ -87,10 +95,16 @@ module _ (js : List Judgment) (d : Derivation js) (D : List Term) (E : List Cont
   abbrev cs : List ℕ
   cs = contextsIn sheet T
 
+  -- it has the edition
+  pub edition-back : editionOf sheet ≡ edition
+  edition-back = edition-is edition T C L termWords contextWords lineWords
+
   -- the terms
   row-holds : (n j : ℕ) → n < T → j < 5 → word sheet n j ≡ rowWord D (numbered zer D n) j
   unfolding word termWords
-  row-holds n j h k = term-word T C L termWords contextWords lineWords (5 * n + j) (omega arith) ∙ (λ i. rowWord D (numbered zer D (row i)) (at i))
+  row-holds n j h k =
+      term-word edition T C L termWords contextWords lineWords (5 * n + j) (omega arith)
+      ∙ (λ i. rowWord D (numbered zer D (row i)) (at i))
     where
       row : (5 * n + j) / 5 ≡ n
       row = omega arith
@@ -104,13 +118,14 @@ module _ (js : List Judgment) (d : Derivation js) (D : List Term) (E : List Cont
   terms : TermTable sheet T
   terms =
       term-table D (list .onceTerms) (list .closedTerms) (list .ranges) sheet row-holds
-      (omega (arith, sheet-length T C L termWords contextWords lineWords)) (list .sizes)
+      (omega (arith, sheet-length edition T C L termWords contextWords lineWords)) (list .sizes)
 
   -- the contexts
   parent-holds : (k : ℕ) → k < C → parentOf cs (suc k) ≡ contextWord D E (numbered [] E k) 0
   unfolding parentOf contextWords
   parent-holds k h =
-      context-word T C L termWords contextWords lineWords (2 * (suc k - 1)) (omega arith) ∙ (λ i. contextWord D E (numbered [] E (row i)) (at i))
+      context-word edition T C L termWords contextWords lineWords (2 * (suc k - 1)) (omega arith)
+      ∙ (λ i. contextWord D E (numbered [] E (row i)) (at i))
     where
       row : (2 * (suc k - 1)) / 2 ≡ k
       row = omega arith
@@ -121,7 +136,8 @@ module _ (js : List Judgment) (d : Derivation js) (D : List Term) (E : List Cont
   type-holds : (k : ℕ) → k < C → typeOf cs (suc k) ≡ contextWord D E (numbered [] E k) 1
   unfolding typeOf contextWords
   type-holds k h =
-      context-word T C L termWords contextWords lineWords (2 * (suc k - 1) + 1) (omega arith) ∙ (λ i. contextWord D E (numbered [] E (row i)) (at i))
+      context-word edition T C L termWords contextWords lineWords (2 * (suc k - 1) + 1) (omega arith)
+      ∙ (λ i. contextWord D E (numbered [] E (row i)) (at i))
     where
       row : (2 * (suc k - 1) + 1) / 2 ≡ k
       row = omega arith
@@ -133,18 +149,26 @@ module _ (js : List Judgment) (d : Derivation js) (D : List Term) (E : List Cont
   unfolding contextsIn
   contexts =
       context-table D E (list .onceContexts) (list .closedContexts) (list .nonEmpty) (list .types) sheet cs spelled parent-holds type-holds
-      (omega (arith, sheet-length T C L termWords contextWords lineWords, length-drop (10 * T) sheet))
+      (omega (arith, sheet-length edition T C L termWords contextWords lineWords, length-drop (10 * T) sheet))
 
   -- the lines
+  rule-is : (n : ℕ) → rowIn edition (ruleWord n) ≡ line n .rule
+  unfolding rule line
+  rule-is n = line-rule D E (judgmentAt js n) (rule n) (places n)
+
   judgment-in : (n : ℕ) → n < L → judgmentAt js n ∈ js
   judgment-in n h = in-place js n (wf []) h
 
   line-holds : (n : ℕ) → n < L → lineAt sheet T C n ≡ line n
   unfolding lineAt lineWord lineWords
-  line-holds n h = line-read (linesIn sheet T C) n (line n) at-column
+  line-holds n h =
+      line-read (editionOf sheet) (linesIn sheet T C) n (ruleWord n) (line n)
+      (ap (λ e. rowIn e (ruleWord n)) edition-back ∙ rule-is n) at-column
     where
-      at-column : (k : ℕ) → k < 10 → lineWord (linesIn sheet T C) n k ≡ column (line n) k
-      at-column k l = line-word T C L termWords contextWords lineWords (10 * n + k) (omega arith) ∙ (λ i. column (line (row i)) (at i))
+      at-column : (k : ℕ) → k < 10 → lineWord (linesIn sheet T C) n k ≡ column (ruleWord n) (line n) k
+      at-column k l =
+          line-word edition T C L termWords contextWords lineWords (10 * n + k) (omega arith)
+          ∙ (λ i. column (ruleWord (row i)) (line (row i)) (at i))
         where
           row : (10 * n + k) / 10 ≡ n
           row = omega arith
@@ -161,12 +185,12 @@ module _ (js : List Judgment) (d : Derivation js) (D : List Term) (E : List Cont
       (contextOf (judgmentAt js n)) (list .contextIn (judgmentAt js n) (judgment-in n h)))
 
   follows : (n : ℕ) → n < L → Instance (rule n) (map (judgmentAt js) (places n)) (judgmentAt js n)
-  unfolding rule places
-  follows n h = follows-at js d n (decLt n (length js)) h
+  unfolding rule ruleWord places
+  follows n h = follows-at edition js d n (decLt n (length js)) h
 
   earlier : (n : ℕ) → n < L → AllBelow n (places n)
   unfolding places
-  earlier n h = earlier-at js d n (decLt n (length js)) h
+  earlier n h = earlier-at edition js d n (decLt n (length js)) h
 
   ok : (n : ℕ) → n < L → LineOk (line n) n T C
   unfolding line
@@ -185,7 +209,12 @@ module _ (js : List Judgment) (d : Derivation js) (D : List Term) (E : List Cont
   unfolding LineFollows
   good =
       record {
-        tables = record { laid = laid-out T C L termWords contextWords lineWords (list .fewTerms) (list .fewContexts) short; terms = terms; contexts = contexts };
+        tables = record {
+          laid =
+              laid-out edition T C L termWords contextWords lineWords known (list .fewTerms) (list .fewContexts) short;
+          terms = terms;
+          contexts = contexts;
+        };
         lines = λ n h.
             record {
               ok = subst (λ l. LineOk l n T C) (sym (line-holds n h)) (ok n h);
@@ -199,7 +228,10 @@ module _ (js : List Judgment) (d : Derivation js) (D : List Term) (E : List Cont
   pub bytes : Bytes sheet
   unfolding termWords contextWords lineWords
   bytes =
-      sheet-bytes T C L termWords contextWords lineWords (list .fewTerms) (list .fewContexts) short
+      sheet-bytes edition T C L termWords contextWords lineWords known (list .fewTerms) (list .fewContexts) short
       (λ i h. row-small D (list .onceTerms) (list .closedTerms) (list .ranges) (list .fewTerms) (numbered zer D (i / 5)) (numbered-in zer D (i / 5) (omega arith)) (i % 5))
       (λ i h. context-small D E (list .onceContexts) (list .closedContexts) (list .nonEmpty) (list .types) (list .fewTerms) (list .fewContexts) (numbered [] E (i / 2)) (numbered-in [] E (i / 2) (omega arith)) (i % 2))
-      (λ i h. let k : i / 10 < L = omega arith in line-small (ok (i / 10) k) (omega arith) (list .fewTerms) (list .fewContexts) (i % 10))
+      (λ i h.
+      let k : i / 10 < L = omega arith in
+      line-small (ok (i / 10) k) (omega arith) (list .fewTerms) (list .fewContexts)
+      edition (ruleWord (i / 10)) (rule-is (i / 10)) (i % 10))

@@ -13,17 +13,20 @@ use lib.ListN.{getD, length, take, length-map, List·getD-map}
 use Rattle.terms.specs.Decides.{Decides}
 use Rattle.terms.specs.Term.{Term}
 use Rattle.terms.specs.Lists.{AllBelow, selected}
+use Rattle.terms.specs.Table.{RowsInTable}
 use Rattle.terms.proofs.Tests.{decides-via, refuted, says-no}
 use Rattle.rules.specs.Judgment.{Context, Judgment, form, contextOf}
 use Rattle.rules.specs.Subjects.{lastForm, subjectUse, usesSubject, subjectsOf, usedSubjects}
 use Rattle.rules.specs.RuleTable.{premiseForm, addedEntries, formOf, countedFrom, Adds, FitsRow}
 use Rattle.rules.specs.Instance.{Instance}
 use Rattle.rules.specs.Contexts.{context, ContextsInTable}
-use Rattle.rules.specs.Stated.{plainJudgment, statedIn, stated, Numbered, usedPremises, Follows, AllNumbered}
-use Rattle.rules.specs.RuleChecks.{ShapedFrom, Shaped, LineInTables, subjectsFrom, ruleSubjects, ruleContexts, RuleInTables, placedFrom, FollowsIn, FollowsPlaced}
+use Rattle.rules.specs.Stated.{lastFormInContext, plainJudgment, statedIn, stated, Numbered, usedPremises, Follows, AllNumbered}
+use Rattle.rules.specs.RuleChecks.{ShapedFrom, Shaped, LineInTables, subjectsFrom, ruleSubjects, ruleContexts, RuleInTables, placedFrom, FollowsIn, FollowsPlaced, SubjectsInTable, DecidesInEmpty}
 use Rattle.rules.specs.declared.judgments.LineJudgment.{LineJudgment}
+use Rattle.rules.proofs.SubjectLaws.{by-form}
 use Rattle.rules.proofs.TableFitsLaws.{row-fits}
-use Rattle.rules.proofs.ContextTableAnswers.{other-contexts}
+use Rattle.rules.proofs.ContextTableLaws.{context-empty}
+use Rattle.rules.proofs.ContextTableAnswers.{other-contexts, rows-known}
 
 -- the first of several premises
 pub numbered-taken : (termCount count k : ℕ) (ps : List LineJudgment) → AllNumbered termCount count ps
@@ -48,19 +51,14 @@ own n false e a = refl
 -- the form and the context that a judgment is made of
 form-of : (f : ℕ) (G : Context) (a b A : Term) → f ≤ lastForm → form (plainJudgment f G a b A) ≡ f
 unfolding plainJudgment form
-form-of zero G a b A h = refl
-form-of (suc zero) G a b A h = refl
-form-of (suc (suc zero)) G a b A h = refl
-form-of (suc (suc (suc zero))) G a b A h = refl
-form-of (suc (suc (suc (suc f)))) G a b A h = absurd (omega arith)
+form-of f G a b A =
+    by-form (λ f. f ≤ lastForm → form (plainJudgment f G a b A) ≡ f) (λ h. refl) (λ h. refl) (λ h. refl) (λ h. refl)
+    (λ h. refl) (λ h. refl) (λ h. refl) (λ f h. absurd (omega arith)) f
 
 pub context-of : (f : ℕ) (G : Context) (a b A : Term) → contextOf (plainJudgment f G a b A) ≡ G
 unfolding plainJudgment contextOf
-context-of zero G a b A = refl
-context-of (suc zero) G a b A = refl
-context-of (suc (suc zero)) G a b A = refl
-context-of (suc (suc (suc zero))) G a b A = refl
-context-of (suc (suc (suc (suc f)))) G a b A = refl
+context-of f G a b A =
+    by-form (λ f. contextOf (plainJudgment f G a b A) ≡ G) refl refl refl refl refl refl refl (λ f. refl) f
 
 both-below : (count : ℕ) (ns ms : List ℕ) → AllBelow count ns → AllBelow count ms → AllBelow count (ns ++ ms)
 both-below count [] ms h k = k
@@ -218,3 +216,38 @@ module _ {terms contexts : List ℕ} {rule : ℕ} {premises : List LineJudgment}
         };
         below = rows-below;
       }
+
+-- the group of a rule that holds in the empty context alone: what it is given, and what its answer decides
+module _ {terms contexts : List ℕ} {rule : ℕ} {premises : List LineJudgment} {c : LineJudgment} {R : Type 0}
+    (given : LineInTables terms contexts rule premises c × (Shaped terms contexts rule premises c × R)) where
+  pub given-empty : SubjectsInTable terms rule premises c
+  given-empty = record { rows = rows-known (given-arm given refl) }
+
+  pub by-group : {r : Bool} → lastFormInContext < formOf rule → DecidesInEmpty r terms rule premises c
+      → Decides r (Follows terms contexts rule premises c)
+  by-group {r} behind d =
+      by-arm given refl
+      (subst (λ G. Decides r (FollowsIn terms contexts rule G (usedPremises rule premises) c)) (sym empty) (d contexts))
+    where
+      empty : context terms contexts (c .context) ≡ []
+      empty =
+          let line = given .0 in
+          let form : lastFormInContext < c .form = subst (λ f. lastFormInContext < f) (sym (line .concludes)) behind in
+          ap (context terms contexts) (line .conclusion .empty form) ∙ context-empty terms contexts
+
+-- the arm of a `match` at rule n in such a group
+module _ {terms : List ℕ} {rule : ℕ} {premises : List LineJudgment} {c : LineJudgment} {R : Type 0}
+    (given : SubjectsInTable terms rule premises c × R) {n : ℕ} (e : rule ≡ n) where
+  -- the rows of the rule's subjects
+  pub arm-rows : RowsInTable terms (ruleSubjects n (usedPremises n premises) c)
+  arm-rows = subst (λ m. RowsInTable terms (ruleSubjects m (usedPremises m premises) c)) e (given .0 .rows)
+
+  -- by the rule's own check
+  pub by-check : {r : Bool} → DecidesInEmpty r terms n premises c → DecidesInEmpty r terms rule premises c
+  by-check {r} d = subst (λ m. DecidesInEmpty r terms m premises c) (sym e) d
+
+  -- by the rule's law, where that is one test
+  pub by-law : {r : Bool} {P : Type 0}
+      → ((contexts : List ℕ) → FollowsIn terms contexts n [] (usedPremises n premises) c ↔ P)
+      → Decides r P → DecidesInEmpty r terms rule premises c
+  by-law law d = by-check (λ contexts. decides-via (law contexts .1, law contexts .0) d)

@@ -1,8 +1,9 @@
--- The laws of the rules, `rule-n` in ContextLaws, TypingLaws, EqualityLaws and SubtypingLaws. Each says, of any
--- judgments of the forms that the rule's row names, that they are an instance of rule n exactly if their parts meet a
--- product of equations (in rule 38 one of them is a choice of two), which is what a check of the rule tests. G and c₁
--- c₂ c₃ are the conclusion's context and its subjects s1, s2, s3; those of the premises are G₀ and p₁ p₂ p₃, G₁ and q₁
--- q₂ q₃, G₂ and r₁ r₂ r₃, G₃ and s₁ s₂ s₃. A letter of the rule that is none of these is read off as a child of one.
+-- The laws of the rules, `rule-n` in ContextLaws, TypingLaws, EqualityLaws, SubtypingLaws and NormalisationLaws. Each
+-- says, of any judgments of the forms that the rule's row names (in NormalisationLaws, of any in the empty context),
+-- that they are an instance of rule n exactly if their parts meet a product of equations (in rule 38 one of them is a
+-- choice of two), which is what a check of the rule tests. G and c₁ c₂ c₃ are the conclusion's context and its subjects
+-- s1, s2, s3; those of the premises are G₀ and p₁ p₂ p₃, G₁ and q₁ q₂ q₃, G₂ and r₁ r₂ r₃, G₃ and s₁ s₂ s₃. A letter of
+-- the rule that is none of these is read off as a child of one.
 use mathlib.Core.Path.{subst₃}
 use mathlib.Core.Logic.{_↔_}
 use mathlib.Core.List.{List}

@@ -1,14 +1,16 @@
 -- The entry that a look-up finds, or does not find, is the one that rule 3 speaks of.
 -- Assumes nothing.
-use mathlib.Core.Path.{_≡_, refl, sym, ap, subst}
-use mathlib.Core.Logic.{_↔_}
+use mathlib.Core.Path.{_≡_, refl, sym, _∙_, ap, subst}
+use mathlib.Core.Logic.{_↔_, _⊎_, inl, inr, ⊎-elim}
+use mathlib.Core.Bool.{Bool, true, false, _&&_, not}
 use mathlib.Core.List.{List, [], _∷_}
 use Prim.Native.Nat.{ℕ, zero, suc, _-_, _≤_, _<_}
 use native.Mathlib.Omega.{arith}
+use lib.Dec.{eqb}
 use lib.ListN.{length}
 use Rattle.terms.specs.Term.{Term}
 use Rattle.terms.specs.Rows.{term}
-use Rattle.terms.proofs.Tests.{clash}
+use Rattle.terms.proofs.Tests.{never, clash, says-eq, refuted}
 use Rattle.rules.specs.Judgment.{Context}
 use Rattle.rules.specs.Instance.{Entry, here, there}
 use Rattle.rules.specs.Contexts.{parentOf, typeOf, context, ContextTable, NumberedContexts, entryOf}
@@ -61,6 +63,22 @@ module _ (terms contexts : List ℕ) (termCount count : ℕ) (table : ContextTab
   pub entry-missing : (x n : ℕ) → n ≤ count → entryOf contexts n x ≡ Missing → (A : Term) → Entry (context terms contexts n) x A → ⊥
   entry-missing x n h e A s = omega (arith, shorter x n h e, entry-long s)
 
+-- two tests that fail, and one that holds
+neither : (a b : Bool) → not a && not b ≡ true → (a ≡ false) × (b ≡ false)
+neither true b h = never h refl
+neither false true h = never h refl
+neither false false h = (refl, refl)
+
+one : (a b : Bool) → not a && not b ≡ false → (a ≡ true) ⊎ (b ≡ true)
+one true b h = inl refl
+one false true h = inr refl
+one false false h = never refl h
+
+-- the test of the loop of `entry`
+pub goes-on : (n x : ℕ) → not (eqb n 0) && not (eqb x 0) ≡ true → (n ≡ 0 → ⊥) × (x ≡ 0 → ⊥)
+goes-on n x h =
+    let both = neither (eqb n 0) (eqb x 0) h in (refuted (says-eq n 0) (both .0), refuted (says-eq x 0) (both .1))
+
 -- `entry`: what it looks for in context n is what it looks for, one step nearer, in the parent
 module _ (contexts : List ℕ) where
   pub parent-numbered : (n p : ℕ) → NumberedContexts contexts (n ∷ []) → (n ≡ 0 → ⊥) → p ≡ parentOf contexts n → NumberedContexts contexts (p ∷ [])
@@ -86,3 +104,9 @@ module _ (contexts : List ℕ) where
   found-none zero zero h = refl
   found-none zero (suc x) h = refl
   found-none (suc n) x h = absurd (omega arith)
+
+  -- where its loop ends
+  pub found-end : (n x : ℕ) → not (eqb n 0) && not (eqb x 0) ≡ false → entryOf contexts n 0 ≡ entryOf contexts n x
+  found-end n x h =
+      ⊎-elim (λ e. let z = says-eq n 0 .0 e in sym (found-none n 0 z) ∙ found-none n x z)
+      (λ e. ap (entryOf contexts n) (sym (says-eq x 0 .0 e))) (one (eqb n 0) (eqb x 0) h)

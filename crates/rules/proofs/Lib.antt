@@ -5,6 +5,7 @@ pub mod ContextLaws
 pub mod TypingLaws
 pub mod EqualityLaws
 pub mod SubtypingLaws
+pub mod NormalisationLaws
 pub mod ContextTableLaws
 pub mod ContextTableCheckLaws
 pub mod ContextTableEntries
@@ -14,5 +15,7 @@ pub mod ContextRuleAnswers
 pub mod ArmLaws
 pub mod RangeLaws
 pub mod RuleTableEntries
+pub mod EditionLaws
+pub mod EmptyContextLaws
 pub mod ShapeLaws
 pub mod SubjectLaws

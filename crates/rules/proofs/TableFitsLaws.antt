@@ -53,6 +53,30 @@ use Rattle.rules.specs.Instance.{
   l-piproj2,
   l-sigproj1,
   l-sigproj2,
+  n-abs,
+  n-pair,
+  n-pi,
+  n-sig,
+  n-succ,
+  n-univ,
+  n-sne,
+  n-zero,
+  n-nat,
+  n-exp,
+  n-var,
+  n-app,
+  n-proj1,
+  n-proj2,
+  n-ind,
+  n-appabs,
+  n-appcong,
+  n-projpair1,
+  n-projpair2,
+  n-projcong1,
+  n-projcong2,
+  n-indzero,
+  n-indsuc,
+  n-indcong,
 }
 use Rattle.rules.specs.RuleTable.{ruleCount, FitsRow, Adds, countedFrom, conclusionForm, premiseCount, premiseForm, addedEntries}
 
@@ -137,3 +161,27 @@ row-fits (l-piproj1 G A₀ A₁ B₀ B₁) = fit tt tt refl refl (refl, same, tt
 row-fits (l-piproj2 G A₀ A₁ B₀ B₁ a₀ a₁) = fit tt tt refl refl (refl, same, (refl, same, tt))
 row-fits (l-sigproj1 G A₀ A₁ B₀ B₁) = fit tt tt refl refl (refl, same, tt)
 row-fits (l-sigproj2 G A₀ A₁ B₀ B₁ a₀ a₁) = fit tt tt refl refl (refl, same, (refl, same, tt))
+row-fits (n-abs b) = fit tt tt refl refl (refl, same, tt)
+row-fits (n-pair a b) = fit tt tt refl refl (refl, same, (refl, same, tt))
+row-fits (n-pi A B) = fit tt tt refl refl (refl, same, (refl, same, tt))
+row-fits (n-sig A B) = fit tt tt refl refl (refl, same, (refl, same, tt))
+row-fits (n-succ a) = fit tt tt refl refl (refl, same, tt)
+row-fits (n-univ i) = fit tt tt refl refl tt
+row-fits (n-sne a) = fit tt tt refl refl (refl, same, tt)
+row-fits n-zero = fit tt tt refl refl tt
+row-fits n-nat = fit tt tt refl refl tt
+row-fits (n-exp a b) = fit tt tt refl refl (refl, same, (refl, same, tt))
+row-fits (n-var x) = fit tt tt refl refl tt
+row-fits (n-app a b) = fit tt tt refl refl (refl, same, (refl, same, tt))
+row-fits (n-proj1 a) = fit tt tt refl refl (refl, same, tt)
+row-fits (n-proj2 a) = fit tt tt refl refl (refl, same, tt)
+row-fits (n-ind P a b c) = fit tt tt refl refl (refl, same, (refl, same, (refl, same, (refl, same, tt))))
+row-fits (n-appabs a b) = fit tt tt refl refl (refl, same, tt)
+row-fits (n-appcong a₀ a₁ b) = fit tt tt refl refl (refl, same, (refl, same, tt))
+row-fits (n-projpair1 a b) = fit tt tt refl refl (refl, same, tt)
+row-fits (n-projpair2 a b) = fit tt tt refl refl (refl, same, tt)
+row-fits (n-projcong1 a b) = fit tt tt refl refl (refl, same, tt)
+row-fits (n-projcong2 a b) = fit tt tt refl refl (refl, same, tt)
+row-fits (n-indzero P b c) = fit tt tt refl refl (refl, same, (refl, same, (refl, same, tt)))
+row-fits (n-indsuc P a b c) = fit tt tt refl refl (refl, same, (refl, same, (refl, same, (refl, same, tt))))
+row-fits (n-indcong P a₀ a₁ b c) = fit tt tt refl refl (refl, same, (refl, same, (refl, same, (refl, same, tt))))

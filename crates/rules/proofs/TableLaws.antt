@@ -1,5 +1,5 @@
 -- The rule table agrees with the rule ranges, the premise counts and the 255 marks: one test over all rows, that antt
--- computes, and a law that reads it at each rule.
+-- computes, and a law that reads it at each rule; and the ranges themselves, each by such a test.
 use mathlib.Core.Path.{_≡_, refl, subst, sym}
 use mathlib.Core.Logic.{_↔_, _⊎_, inl, inr, Dec·and}
 use Prim.Native.Nat.{ℕ, zero, suc, _*_, _≤_, _<_}
@@ -7,6 +7,7 @@ use native.Mathlib.Nat.{not-suc-le-zero, le-of-suc-le-suc, eq-or-lt-of-le}
 use native.Mathlib.Decide.{ℕ-discrete, decLe}
 use native.Mathlib.Omega.{arith}
 use lib.ListN.{length}
+use Rattle.rules.specs.Subjects.{lastForm}
 use Rattle.rules.specs.RuleTable.{ruleCount, IsRule, ruleTable, RowAgrees, conclusionForm, premiseCount, premiseForm, addedEntries, formOf}
 
 -- ten numbers for each rule
@@ -66,12 +67,56 @@ row? rule =
     (Dec·and (ℕ-discrete (conclusionForm rule) (formOf rule)) (decLe (premiseCount rule) 4))
     (Dec·and (marks? (premiseCount rule) (premiseForm rule)) (marks? (premiseCount rule) (addedEntries rule)))
 
-rows : (k : ℕ) → k < ruleCount → Row (suc k)
-unfolding below? row? conclusionForm premiseCount premiseForm addedEntries formOf
-rows = holds (below? (λ k. Row (suc k)) (λ k. row? (suc k)) ruleCount) tt
+-- what is decided at each rule, and by computation holds, holds at any
+at-rule : (P : ℕ → Type 0) (decided : (rule : ℕ) → Dec (P rule))
+    → IsYes (below? (λ k. P (suc k)) (λ k. decided (suc k)) ruleCount) → (rule : ℕ) → IsRule rule → P rule
+at-rule P decided t zero h = absurd (not-suc-le-zero (h .0))
+at-rule P decided t (suc k) h = holds (below? (λ k. P (suc k)) (λ k. decided (suc k)) ruleCount) t k (h .1)
 
 -- the one theorem over all rows
 pub row-agrees : (rule : ℕ) → IsRule rule → RowAgrees rule
-row-agrees zero h = absurd (not-suc-le-zero (h .0))
-row-agrees (suc k) h =
-    let r = rows k (h .1) in record { concludes = r .0 .0; count = r .0 .1; forms = r .1 .0; added = r .1 .1 }
+unfolding below? row? conclusionForm premiseCount premiseForm addedEntries formOf
+row-agrees rule h =
+    let r = at-rule Row row? tt rule h in
+    record { concludes = r .0 .0; count = r .0 .1; forms = r .1 .0; added = r .1 .1 }
+
+-- a rule concludes one of the forms
+pub form-small : (rule : ℕ) → IsRule rule → formOf rule ≤ lastForm
+unfolding below? decLe formOf
+form-small = at-rule (λ rule. formOf rule ≤ lastForm) (λ rule. decLe (formOf rule) lastForm) tt
+
+-- the rules that conclude a form are those of its range
+abbrev pub Concludes : ℕ → ℕ → ℕ → ℕ → Type 0
+Concludes f first last rule = (formOf rule ≡ f) ↔ ((first ≤ rule) × (rule ≤ last))
+
+range? : (f first last rule : ℕ) → Dec (Concludes f first last rule)
+unfolding iff? Dec·and ℕ-discrete decLe
+range? f first last rule = iff? (ℕ-discrete (formOf rule) f) (Dec·and (decLe first rule) (decLe rule last))
+
+pub range-0 : (rule : ℕ) → IsRule rule → Concludes 0 1 2 rule
+unfolding below? range? formOf
+range-0 = at-rule (Concludes 0 1 2) (range? 0 1 2) tt
+
+pub range-1 : (rule : ℕ) → IsRule rule → Concludes 1 3 16 rule
+unfolding below? range? formOf
+range-1 = at-rule (Concludes 1 3 16) (range? 1 3 16) tt
+
+pub range-2 : (rule : ℕ) → IsRule rule → Concludes 2 17 34 rule
+unfolding below? range? formOf
+range-2 = at-rule (Concludes 2 17 34) (range? 2 17 34) tt
+
+pub range-3 : (rule : ℕ) → IsRule rule → Concludes 3 35 43 rule
+unfolding below? range? formOf
+range-3 = at-rule (Concludes 3 35 43) (range? 3 35 43) tt
+
+pub range-4 : (rule : ℕ) → IsRule rule → Concludes 4 44 53 rule
+unfolding below? range? formOf
+range-4 = at-rule (Concludes 4 44 53) (range? 4 44 53) tt
+
+pub range-5 : (rule : ℕ) → IsRule rule → Concludes 5 54 58 rule
+unfolding below? range? formOf
+range-5 = at-rule (Concludes 5 54 58) (range? 5 54 58) tt
+
+pub range-6 : (rule : ℕ) → IsRule rule → Concludes 6 59 67 rule
+unfolding below? range? formOf
+range-6 = at-rule (Concludes 6 59 67) (range? 6 59 67) tt

@@ -61,6 +61,30 @@ use Rattle.rules.specs.Instance.{
   l-piproj2,
   l-sigproj1,
   l-sigproj2,
+  n-abs,
+  n-pair,
+  n-pi,
+  n-sig,
+  n-succ,
+  n-univ,
+  n-sne,
+  n-zero,
+  n-nat,
+  n-exp,
+  n-var,
+  n-app,
+  n-proj1,
+  n-proj2,
+  n-ind,
+  n-appabs,
+  n-appcong,
+  n-projpair1,
+  n-projpair2,
+  n-projcong1,
+  n-projcong2,
+  n-indzero,
+  n-indsuc,
+  n-indcong,
 }
 
 -- an instance with its rule, premises and conclusion
@@ -177,6 +201,30 @@ candidates =
     (λ c p q r s. found (l-piproj2 (contextOf c) (child (s1 p) 1) (s3 q) (child (s1 p) 2) (child (s2 p) 2) (s1 q) (s2 q))) ∷
     (λ c p q r s. found (l-sigproj1 (contextOf c) (s1 c) (s2 c) (child (s1 p) 2) (child (s2 p) 2))) ∷
     (λ c p q r s. found (l-sigproj2 (contextOf c) (s3 q) (child (s2 p) 1) (child (s1 p) 2) (child (s2 p) 2) (s1 q) (s2 q))) ∷
+    (λ c p q r s. found (n-abs (s1 p))) ∷
+    (λ c p q r s. found (n-pair (s1 p) (s1 q))) ∷
+    (λ c p q r s. found (n-pi (s1 p) (s1 q))) ∷
+    (λ c p q r s. found (n-sig (s1 p) (s1 q))) ∷
+    (λ c p q r s. found (n-succ (s1 p))) ∷
+    (λ c p q r s. found (n-univ (numberIn (s1 c)))) ∷
+    (λ c p q r s. found (n-sne (s1 c))) ∷
+    (λ c p q r s. found n-zero) ∷
+    (λ c p q r s. found n-nat) ∷
+    (λ c p q r s. found (n-exp (s1 p) (s2 p))) ∷
+    (λ c p q r s. found (n-var (numberIn (s1 c)))) ∷
+    (λ c p q r s. found (n-app (s1 p) (s1 q))) ∷
+    (λ c p q r s. found (n-proj1 (s1 p))) ∷
+    (λ c p q r s. found (n-proj2 (s1 p))) ∷
+    (λ c p q r s. found (n-ind (s1 p) (s1 q) (s1 r) (s1 s))) ∷
+    (λ c p q r s. found (n-appabs (child (child (s1 c) 1) 1) (s1 p))) ∷
+    (λ c p q r s. found (n-appcong (s1 q) (s2 q) (s1 p))) ∷
+    (λ c p q r s. found (n-projpair1 (s2 c) (s1 p))) ∷
+    (λ c p q r s. found (n-projpair2 (s1 p) (s2 c))) ∷
+    (λ c p q r s. found (n-projcong1 (s1 p) (s2 p))) ∷
+    (λ c p q r s. found (n-projcong2 (s1 p) (s2 p))) ∷
+    (λ c p q r s. found (n-indzero (s1 p) (s1 q) (s1 r))) ∷
+    (λ c p q r s. found (n-indsuc (s1 p) (s1 q) (s1 r) (s1 s))) ∷
+    (λ c p q r s. found (n-indcong (s1 p) (s1 s) (s2 s) (s1 q) (s1 r))) ∷
     []
 
 -- the instance of rule n whose letters are read off these judgments; past the last rule again one of rule 1
@@ -231,6 +279,30 @@ same (l-piproj1 G A₀ A₁ B₀ B₁) = (refl, refl, refl)
 same (l-piproj2 G A₀ A₁ B₀ B₁ a₀ a₁) = (refl, refl, refl)
 same (l-sigproj1 G A₀ A₁ B₀ B₁) = (refl, refl, refl)
 same (l-sigproj2 G A₀ A₁ B₀ B₁ a₀ a₁) = (refl, refl, refl)
+same (n-abs b) = (refl, refl, refl)
+same (n-pair a b) = (refl, refl, refl)
+same (n-pi A B) = (refl, refl, refl)
+same (n-sig A B) = (refl, refl, refl)
+same (n-succ a) = (refl, refl, refl)
+same (n-univ i) = (refl, refl, refl)
+same (n-sne a) = (refl, refl, refl)
+same n-zero = (refl, refl, refl)
+same n-nat = (refl, refl, refl)
+same (n-exp a b) = (refl, refl, refl)
+same (n-var x) = (refl, refl, refl)
+same (n-app a b) = (refl, refl, refl)
+same (n-proj1 a) = (refl, refl, refl)
+same (n-proj2 a) = (refl, refl, refl)
+same (n-ind P a b c) = (refl, refl, refl)
+same (n-appabs a b) = (refl, refl, refl)
+same (n-appcong a₀ a₁ b) = (refl, refl, refl)
+same (n-projpair1 a b) = (refl, refl, refl)
+same (n-projpair2 a b) = (refl, refl, refl)
+same (n-projcong1 a b) = (refl, refl, refl)
+same (n-projcong2 a b) = (refl, refl, refl)
+same (n-indzero P b c) = (refl, refl, refl)
+same (n-indsuc P a b c) = (refl, refl, refl)
+same (n-indcong P a₀ a₁ b c) = (refl, refl, refl)
 
 decide : {n : ℕ} {ps : List Judgment} {c : Judgment} (k : Candidate) → (Instance n ps c → Matches n ps c k)
     → Dec (k .number ≡ n) → Dec (k .premises ≡ ps) → Dec (k .conclusion ≡ c) → Dec (Instance n ps c)

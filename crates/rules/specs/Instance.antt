@@ -1,12 +1,13 @@
--- The 43 rules: sections 1 and 2 of source document 000 as document 01 amends them, a constructor each, named, numbered
--- and ordered as printed; rule 38 has two, one a reading (document 02, A3). `Instance n premises conclusion` is an
--- instance of rule n; its premises stand left to right as printed. A constructor takes the context, then the rule's
--- letters, capitals first, each in the order of the alphabet; conditions come last.
+-- The 67 rules, a constructor each, named, numbered and ordered as printed: 1 to 43 are sections 1 and 2 of source
+-- document 000 as document 01 amends them, rule 38 with two, one a reading (document 02, A3); 44 to 67 are section 4
+-- (document 02, A5). `Instance n premises conclusion` is an instance of rule n; its premises stand left to right as
+-- printed. A constructor takes the context (44 to 67 take none), then the rule's letters, capitals first, each in the
+-- order of the alphabet; conditions come last.
 use mathlib.Core.List.{List, [], _∷_}
 use Prim.Native.Nat.{ℕ, zero, suc, _≤_}
 use Rattle.terms.specs.Term.{Term, var, univ, pi, lam, app, sigma, pair, first, second, nat, zer, succ, ind}
 use Rattle.terms.specs.Substitution.{shift, _⟨_⟩, onSucc, onBoth}
-use Rattle.rules.specs.Judgment.{Context, Judgment, wf, typed, equal, sub}
+use Rattle.rules.specs.Judgment.{Context, Judgment, wf, typed, equal, sub, normal, neutral, steps}
 
 -- x : A in G. The variable x is the entry that x others are nearer than.
 pub data Entry : Context → ℕ → Term → Type 0 where
@@ -125,3 +126,58 @@ pub data Instance : ℕ → List Judgment → Judgment → Type 0 where
       → Instance 42 (sub G (sigma A₀ B₀) (sigma A₁ B₁) ∷ []) (sub G A₀ A₁)
   l-sigproj2 : (G : Context) (A₀ A₁ B₀ B₁ a₀ a₁ : Term)
       → Instance 43 (sub G (sigma A₀ B₀) (sigma A₁ B₁) ∷ equal G a₀ a₁ A₀ ∷ []) (sub G (B₀ ⟨ a₀ ⟩) (B₁ ⟨ a₁ ⟩))
+  -- Strong normal forms, form 4. Rules 44 to 67 hold in the empty context alone; a part that binds variables is cited
+  -- as it stands.
+  n-abs : (b : Term)
+      → Instance 44 (normal [] b ∷ []) (normal [] (lam b))
+  n-pair : (a b : Term)
+      → Instance 45 (normal [] a ∷ normal [] b ∷ []) (normal [] (pair a b))
+  n-pi : (A B : Term)
+      → Instance 46 (normal [] A ∷ normal [] B ∷ []) (normal [] (pi A B))
+  n-sig : (A B : Term)
+      → Instance 47 (normal [] A ∷ normal [] B ∷ []) (normal [] (sigma A B))
+  n-succ : (a : Term)
+      → Instance 48 (normal [] a ∷ []) (normal [] (succ a))
+  n-univ : (i : ℕ)
+      → Instance 49 [] (normal [] (univ i))
+  n-sne : (a : Term)
+      → Instance 50 (neutral [] a ∷ []) (normal [] a)
+  n-zero : Instance 51 [] (normal [] zer)
+  n-nat : Instance 52 [] (normal [] nat)
+  n-exp : (a b : Term)
+      → Instance 53 (steps [] a b ∷ normal [] b ∷ []) (normal [] a)
+  -- Strong neutral forms, form 5.
+  n-var : (x : ℕ)
+      → Instance 54 [] (neutral [] (var x))
+  n-app : (a b : Term)
+      → Instance 55 (neutral [] a ∷ normal [] b ∷ []) (neutral [] (app a b))
+  n-proj1 : (a : Term)
+      → Instance 56 (neutral [] a ∷ []) (neutral [] (first a))
+  n-proj2 : (a : Term)
+      → Instance 57 (neutral [] a ∷ []) (neutral [] (second a))
+  n-ind : (P a b c : Term)
+      → Instance 58 (normal [] P ∷ neutral [] a ∷ normal [] b ∷ normal [] c ∷ []) (neutral [] (ind P a b c))
+  -- Strong head steps, form 6.
+  n-appabs : (a b : Term)
+      → Instance 59 (normal [] b ∷ []) (steps [] (app (lam a) b) (a ⟨ b ⟩))
+  n-appcong : (a₀ a₁ b : Term)
+      → Instance 60 (normal [] b ∷ steps [] a₀ a₁ ∷ []) (steps [] (app a₀ b) (app a₁ b))
+  n-projpair1 : (a b : Term)
+      → Instance 61 (normal [] b ∷ []) (steps [] (first (pair a b)) a)
+  n-projpair2 : (a b : Term)
+      → Instance 62 (normal [] a ∷ []) (steps [] (second (pair a b)) b)
+  n-projcong1 : (a b : Term)
+      → Instance 63 (steps [] a b ∷ []) (steps [] (first a) (first b))
+  n-projcong2 : (a b : Term)
+      → Instance 64 (steps [] a b ∷ []) (steps [] (second a) (second b))
+  n-indzero : (P b c : Term)
+      → Instance 65 (normal [] P ∷ normal [] b ∷ normal [] c ∷ []) (steps [] (ind P zer b c) b)
+  -- in c, y takes ind P a b c and x takes a, together
+  n-indsuc : (P a b c : Term)
+      → Instance 66
+      (normal [] P ∷ normal [] a ∷ normal [] b ∷ normal [] c ∷ [])
+      (steps [] (ind P (succ a) b c) (onBoth c a (ind P a b c)))
+  n-indcong : (P a₀ a₁ b c : Term)
+      → Instance 67
+      (normal [] P ∷ normal [] b ∷ normal [] c ∷ steps [] a₀ a₁ ∷ [])
+      (steps [] (ind P a₀ b c) (ind P a₁ b c))

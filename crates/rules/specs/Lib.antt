@@ -4,6 +4,7 @@ pub mod Conditions
 pub mod Readings
 pub mod Subjects
 pub mod RuleTable
+pub mod Editions
 pub mod Decision
 pub mod Contexts
 pub mod Stated

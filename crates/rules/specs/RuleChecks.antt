@@ -1,13 +1,14 @@
--- What the checks of a line are given and what they decide: document 01, "The 43 rules". `is_instance` is given a line
--- of well-formed tables and first asks what the rule's row of the table does (`Shaped`); the rule's own check decides
--- the rest, by the rule's number. A premise that its context is well formed is not looked at: a check is asked without
--- it, and promises its answer for any.
+-- What the checks of a line are given and what they decide: document 01, "The 43 rules", and document 02, A5.
+-- `is_instance` is given a line of well-formed tables and first asks what the rule's row of the table does (`Shaped`);
+-- the rest is decided by the rule's number: by its own check, or for rules 44 to 67 by their group. A premise that its
+-- context is well formed is not looked at: a check is asked without it, and promises its answer for any.
 use mathlib.Core.Path.{_≡_}
 use mathlib.Core.Bool.{Bool, true, false}
 use mathlib.Core.List.{List, [], _∷_, _++_, map}
 use Prim.Native.Nat.{ℕ, suc}
 use lib.Dec.{eqb}
 use Rattle.terms.specs.Decides.{Decides}
+use Rattle.terms.specs.Table.{RowsInTable}
 use Rattle.rules.specs.Judgment.{Context, Judgment}
 use Rattle.rules.specs.Subjects.{usedSubjects}
 use Rattle.rules.specs.RuleTable.{IsRule, premiseForm, addedEntries, formOf, countedFrom, Adds}
@@ -82,3 +83,14 @@ FollowsPlaced terms contexts rule premises c =
 abbrev pub DecidesInEvery : Bool → List ℕ → ℕ → List LineJudgment → LineJudgment → Type 0
 DecidesInEvery ok terms rule premises c =
     (contexts : List ℕ) (G : Context) → Decides ok (FollowsIn terms contexts rule G premises c)
+
+-- what a check in the empty context is given: the subjects of the conclusion and of those premises that the rule uses
+-- stand in a well-formed table. A record, so that laws can infer what it speaks of.
+pub record SubjectsInTable (terms : List ℕ) (rule : ℕ) (premises : List LineJudgment) (c : LineJudgment) : Type 0 where
+  pub rows : RowsInTable terms (ruleSubjects rule (usedPremises rule premises) c)
+
+-- the test decides whether c follows from those premises that the rule uses in the empty context, where alone rules 44
+-- to 67 hold
+abbrev pub DecidesInEmpty : Bool → List ℕ → ℕ → List LineJudgment → LineJudgment → Type 0
+DecidesInEmpty ok terms rule premises c =
+    (contexts : List ℕ) → Decides ok (FollowsIn terms contexts rule [] (usedPremises rule premises) c)

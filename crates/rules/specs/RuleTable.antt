@@ -1,6 +1,7 @@
--- The rule table: document 01, "The 43 rules". Ten numbers for each rule, in the rules' order: conclusion form, premise
--- count, four premise forms, and four counts of entries that each premise's context adds to the conclusion's, 255 where
--- there is no premise. For rule 2 the added entries are counted from the context without its last entry.
+-- The rule table: document 01, "The 43 rules", and document 02, A5. Ten numbers for each rule, in the rules' order:
+-- conclusion form, premise count, four premise forms, and four counts of entries that each premise's context adds to
+-- the conclusion's, 255 where there is no premise. For rule 2 the added entries are counted from the context without
+-- its last entry.
 use mathlib.Core.Path.{_≡_}
 use mathlib.Core.Logic.{_↔_}
 use mathlib.Core.List.{List, [], _∷_, _++_}
@@ -13,7 +14,7 @@ use Rattle.rules.specs.declared.table.RuleRow.{RuleRow}
 
 -- rules count from 1
 abbrev pub ruleCount : ℕ
-ruleCount = 43
+ruleCount = 67
 
 -- a rule's number
 abbrev pub IsRule : ℕ → Type 0
@@ -68,9 +69,34 @@ ruleTable =
     3 ∷ 2 ∷ 3 ∷ 2 ∷ 255 ∷ 255 ∷ 0 ∷ 0 ∷ 255 ∷ 255 ∷  -- 41 L-PIPROJ2
     3 ∷ 1 ∷ 3 ∷ 255 ∷ 255 ∷ 255 ∷ 0 ∷ 255 ∷ 255 ∷ 255 ∷  -- 42 L-SIGPROJ1
     3 ∷ 2 ∷ 3 ∷ 2 ∷ 255 ∷ 255 ∷ 0 ∷ 0 ∷ 255 ∷ 255 ∷  -- 43 L-SIGPROJ2
+    4 ∷ 1 ∷ 4 ∷ 255 ∷ 255 ∷ 255 ∷ 0 ∷ 255 ∷ 255 ∷ 255 ∷  -- 44 N-ABS
+    4 ∷ 2 ∷ 4 ∷ 4 ∷ 255 ∷ 255 ∷ 0 ∷ 0 ∷ 255 ∷ 255 ∷  -- 45 N-PAIR
+    4 ∷ 2 ∷ 4 ∷ 4 ∷ 255 ∷ 255 ∷ 0 ∷ 0 ∷ 255 ∷ 255 ∷  -- 46 N-PI
+    4 ∷ 2 ∷ 4 ∷ 4 ∷ 255 ∷ 255 ∷ 0 ∷ 0 ∷ 255 ∷ 255 ∷  -- 47 N-SIG
+    4 ∷ 1 ∷ 4 ∷ 255 ∷ 255 ∷ 255 ∷ 0 ∷ 255 ∷ 255 ∷ 255 ∷  -- 48 N-SUCC
+    4 ∷ 0 ∷ 255 ∷ 255 ∷ 255 ∷ 255 ∷ 255 ∷ 255 ∷ 255 ∷ 255 ∷  -- 49 N-UNIV
+    4 ∷ 1 ∷ 5 ∷ 255 ∷ 255 ∷ 255 ∷ 0 ∷ 255 ∷ 255 ∷ 255 ∷  -- 50 N-SNE
+    4 ∷ 0 ∷ 255 ∷ 255 ∷ 255 ∷ 255 ∷ 255 ∷ 255 ∷ 255 ∷ 255 ∷  -- 51 N-ZERO
+    4 ∷ 0 ∷ 255 ∷ 255 ∷ 255 ∷ 255 ∷ 255 ∷ 255 ∷ 255 ∷ 255 ∷  -- 52 N-NAT
+    4 ∷ 2 ∷ 6 ∷ 4 ∷ 255 ∷ 255 ∷ 0 ∷ 0 ∷ 255 ∷ 255 ∷  -- 53 N-EXP
+    5 ∷ 0 ∷ 255 ∷ 255 ∷ 255 ∷ 255 ∷ 255 ∷ 255 ∷ 255 ∷ 255 ∷  -- 54 N-VAR
+    5 ∷ 2 ∷ 5 ∷ 4 ∷ 255 ∷ 255 ∷ 0 ∷ 0 ∷ 255 ∷ 255 ∷  -- 55 N-APP
+    5 ∷ 1 ∷ 5 ∷ 255 ∷ 255 ∷ 255 ∷ 0 ∷ 255 ∷ 255 ∷ 255 ∷  -- 56 N-PROJ1
+    5 ∷ 1 ∷ 5 ∷ 255 ∷ 255 ∷ 255 ∷ 0 ∷ 255 ∷ 255 ∷ 255 ∷  -- 57 N-PROJ2
+    5 ∷ 4 ∷ 4 ∷ 5 ∷ 4 ∷ 4 ∷ 0 ∷ 0 ∷ 0 ∷ 0 ∷  -- 58 N-IND
+    6 ∷ 1 ∷ 4 ∷ 255 ∷ 255 ∷ 255 ∷ 0 ∷ 255 ∷ 255 ∷ 255 ∷  -- 59 N-APPABS
+    6 ∷ 2 ∷ 4 ∷ 6 ∷ 255 ∷ 255 ∷ 0 ∷ 0 ∷ 255 ∷ 255 ∷  -- 60 N-APPCONG
+    6 ∷ 1 ∷ 4 ∷ 255 ∷ 255 ∷ 255 ∷ 0 ∷ 255 ∷ 255 ∷ 255 ∷  -- 61 N-PROJPAIR1
+    6 ∷ 1 ∷ 4 ∷ 255 ∷ 255 ∷ 255 ∷ 0 ∷ 255 ∷ 255 ∷ 255 ∷  -- 62 N-PROJPAIR2
+    6 ∷ 1 ∷ 6 ∷ 255 ∷ 255 ∷ 255 ∷ 0 ∷ 255 ∷ 255 ∷ 255 ∷  -- 63 N-PROJCONG1
+    6 ∷ 1 ∷ 6 ∷ 255 ∷ 255 ∷ 255 ∷ 0 ∷ 255 ∷ 255 ∷ 255 ∷  -- 64 N-PROJCONG2
+    6 ∷ 3 ∷ 4 ∷ 4 ∷ 4 ∷ 255 ∷ 0 ∷ 0 ∷ 0 ∷ 255 ∷  -- 65 N-INDZERO
+    6 ∷ 4 ∷ 4 ∷ 4 ∷ 4 ∷ 4 ∷ 0 ∷ 0 ∷ 0 ∷ 0 ∷  -- 66 N-INDSUC
+    6 ∷ 4 ∷ 4 ∷ 4 ∷ 4 ∷ 6 ∷ 0 ∷ 0 ∷ 0 ∷ 0 ∷  -- 67 N-INDCONG
     []
 
--- the number in a rule's row, columns counted from 0; rules count from 1, and 255 stands past the end
+-- the number in a rule's row, columns counted from 0; rules count from 1, and 255 stands past the end. Row 0, which is
+-- none, reads as row 1: number 9 has refused it before.
 unfoldable pub tableAt : ℕ → ℕ → ℕ
 unfolding ruleTable
 tableAt rule column = getD ruleTable (10 * (rule - 1) + column) 255
@@ -107,27 +133,20 @@ ruleRow rule =
       added3 = addedEntries rule 3;
     }
 
--- "The ranges 1-2, 3-16, 17-34 and 35-43 conclude forms 0, 1, 2 and 3"; 255, which is no form, where there is no such
--- rule
+-- "The ranges 1-2, 3-16, 17-34 and 35-43 conclude forms 0, 1, 2 and 3", and by document 02, A5, the ranges 44-53, 54-58
+-- and 59-67 forms 4, 5 and 6: the last rule of each range, with its form
+abbrev pub ranges : List (ℕ × ℕ)
+ranges = (2, 0) ∷ (16, 1) ∷ (34, 2) ∷ (43, 3) ∷ (53, 4) ∷ (58, 5) ∷ (67, 6) ∷ []
+
+-- the form of the first range that a rule is not behind
+unfoldable pub formAmong : List (ℕ × ℕ) → ℕ → ℕ
+formAmong [] rule = 255
+formAmong (range ∷ rest) rule = elim (leb rule (range .0)) [ true ↦ range .1 | false ↦ formAmong rest rule ]
+
+-- the form that a rule concludes; 255, which is no form, where there is no such rule
 unfoldable pub formOf : ℕ → ℕ
-formOf rule =
-    elim (leb rule 0) [
-      | true ↦ 255
-      | false ↦
-          elim (leb rule 2) [
-            | true ↦ 0
-            | false ↦
-                elim (leb rule 16) [
-                  | true ↦ 1
-                  | false ↦
-                      elim (leb rule 34) [
-                        | true ↦ 2
-                        | false ↦
-                            elim (leb rule ruleCount) [ true ↦ 3 | false ↦ 255 ]
-                      ]
-                ]
-          ]
-    ]
+unfolding ruleKnown formAmong
+formOf rule = elim (ruleKnown rule) [ true ↦ formAmong ranges rule | false ↦ 255 ]
 
 -- A row agrees with the ranges and with itself: 255 marks exactly the places from the premise count on.
 pub record RowAgrees (rule : ℕ) : Type 0 where

@@ -1,5 +1,5 @@
--- Which subjects a form uses: document 01, "The sheet", a line's form. The ranges of a judgment's numbers, the zeros of
--- a line and the terms of a derivation all follow this one table.
+-- Which subjects a form uses: document 01, "The sheet", a line's form, and document 02, A5. The ranges of a judgment's
+-- numbers, the zeros of a line and the terms of a derivation all follow this one table.
 use mathlib.Core.Bool.{Bool, true, false}
 use mathlib.Core.List.{List, [], _∷_}
 use Prim.Native.Nat.{ℕ}
@@ -10,15 +10,19 @@ use Rattle.rules.specs.declared.judgments.SubjectUse.{SubjectUse}
 
 -- forms count from 0
 abbrev pub lastForm : ℕ
-lastForm = 3
+lastForm = 6
 
--- by form, whether s1, s2 and s3 are used: form 0 uses none, 1 uses s1 and s3, 2 uses all, 3 uses s1 and s2
+-- by form, whether s1, s2 and s3 are used: form 0 uses none, 1 uses s1 and s3, 2 uses all, 3 and 6 use s1 and s2, 4 and
+-- 5 use s1
 unfoldable pub subjectUse : ℕ → List Bool
 subjectUse form =
     getD
     ((false ∷ false ∷ false ∷ [])
     ∷ (true ∷ false ∷ true ∷ [])
     ∷ (true ∷ true ∷ true ∷ [])
+    ∷ (true ∷ true ∷ false ∷ [])
+    ∷ (true ∷ false ∷ false ∷ [])
+    ∷ (true ∷ false ∷ false ∷ [])
     ∷ (true ∷ true ∷ false ∷ [])
     ∷ [])
     form []

@@ -136,21 +136,36 @@ pub fn extends_nat_then(terms: &[u8], contexts: &[u8], n: usize, base: usize, ro
     (type_of(contexts, n) == row) & extends_nat(terms, contexts, parent(contexts, n), base)
 }
 
-// The row of the type of the entry of context `n` that `x` others are nearer than.
+// The nearest entry of context `n`, if there is one.
+fn nearest(contexts: &[u8], n: usize) -> FoundEntry
+    requires { ⌜ NumberedContexts (now contexts) (n ∷ []) ⌝ }
+    ensures { λ r. ⌜ r ≡ entryOf (now (contexts .entry)) n 0 ⌝ }
+{
+    if n == 0 {
+        return FoundEntry::Missing;
+    }
+    FoundEntry::At {
+        row: type_of(contexts, n),
+    }
+}
+
+// The row of the type of the entry of context `n` that `x` others are nearer than. The first step up stands apart: the
+// compiler then keeps the loop's context in a register.
 pub fn entry(contexts: &[u8], n: usize, x: usize) -> FoundEntry
     requires { ⌜ NumberedContexts (now contexts) (n ∷ []) ⌝ }
     ensures { λ r. ⌜ r ≡ entryOf (now (contexts .entry)) n x ⌝ }
 {
-    let mut at = n;
-    let mut left = x;
-    while at != 0 {
-        if left == 0 {
-            return FoundEntry::At {
-                row: type_of(contexts, at),
-            };
-        }
+    if x == 0 {
+        return nearest(contexts, n);
+    }
+    if n == 0 {
+        return FoundEntry::Missing;
+    }
+    let mut at = parent(contexts, n);
+    let mut left = x - 1;
+    while (at != 0) & (left != 0) {
         at = parent(contexts, at);
         left -= 1;
     }
-    FoundEntry::Missing
+    nearest(contexts, at)
 }

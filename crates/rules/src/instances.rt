@@ -1,5 +1,5 @@
 // Is a line an instance of its rule? First what the rule table asks of every rule, then by the conclusion's form and by
-// rule to the rule's own check.
+// rule to the rule's own check. The groups of rules 44 to 67, which look at no context, are in `normalisation`.
 use crate::equality::e_absext;
 use crate::equality::e_app;
 use crate::equality::e_appabs;
@@ -19,6 +19,9 @@ use crate::equality::e_suc;
 use crate::equality::e_sym;
 use crate::equality::e_trans;
 use crate::judgments::LineJudgment;
+use crate::normalisation::neutral_instance;
+use crate::normalisation::normal_instance;
+use crate::normalisation::step_instance;
 use crate::shapes::shaped;
 use crate::subtyping::l_eq;
 use crate::subtyping::l_pi;
@@ -46,9 +49,11 @@ use crate::typing::wt_var;
 use crate::typing::wt_zero;
 use crate::wellformed::wf_cons;
 use crate::wellformed::wf_nil;
+ghost use mathlib.Core.Path.{_≡_};
 ghost use mathlib.Core.List.{[], _∷_};
 ghost use Prim.Native.Nat.{_≤_};
 ghost use Rattle.terms.specs.Decides.{Decides};
+ghost use Rattle.rules.specs.RuleTable.{ruleTable};
 ghost use Rattle.rules.specs.Stated.{Follows};
 ghost use Rattle.rules.specs.RuleChecks.{LineInTables, Shaped};
 
@@ -162,7 +167,7 @@ fn subtyping_instance(
 ) -> bool
     requires { ⌜ LineInTables (now terms) (now contexts) rule (p ∷ q ∷ r ∷ s ∷ []) c ⌝ }
     requires { ⌜ Shaped (now terms) (now contexts) rule (p ∷ q ∷ r ∷ s ∷ []) c ⌝ }
-    requires { ⌜ (35 ≤ rule) ⌝ }
+    requires { ⌜ (35 ≤ rule) × (rule ≤ 43) ⌝ }
     ensures { λ ok. ⌜ Decides ok (Follows (now (terms .entry)) (now (contexts .entry)) rule (p ∷ q ∷ r ∷ s ∷ []) c) ⌝ }
 {
     match rule {
@@ -182,6 +187,7 @@ fn subtyping_instance(
 // Does the judgment `c` follow by the rule from those of `p`, `q`, `r`, `s` that the rule uses? The others are not
 // looked at.
 pub fn is_instance(
+    table: &[u8; 670],
     terms: &[u8],
     contexts: &[u8],
     rule: usize,
@@ -191,16 +197,20 @@ pub fn is_instance(
     r: LineJudgment,
     s: LineJudgment,
 ) -> bool
+    requires { ⌜ now table ≡ ruleTable ⌝ }
     requires { ⌜ LineInTables (now terms) (now contexts) rule (p ∷ q ∷ r ∷ s ∷ []) c ⌝ }
     ensures { λ ok. ⌜ Decides ok (Follows (now (terms .entry)) (now (contexts .entry)) rule (p ∷ q ∷ r ∷ s ∷ []) c) ⌝ }
 {
-    if shaped(terms, contexts, rule, c, p, q, r, s) {
+    if shaped(table, terms, contexts, rule, c, p, q, r, s) {
         let form = conclusion_form(rule);
         match form {
             0 => wellformed_instance(terms, contexts, rule, c, p, q, r, s),
             1 => typing_instance(terms, contexts, rule, c, p, q, r, s),
             2 => equality_instance(terms, contexts, rule, c, p, q, r, s),
-            _ => subtyping_instance(terms, contexts, rule, c, p, q, r, s),
+            3 => subtyping_instance(terms, contexts, rule, c, p, q, r, s),
+            4 => normal_instance(terms, rule, c, p, q, r, s),
+            5 => neutral_instance(terms, rule, c, p, q, r, s),
+            _ => step_instance(terms, rule, c, p, q, r, s),
         }
     } else {
         false

@@ -7,7 +7,7 @@ ghost use mathlib.Core.List.{[], _∷_};
 ghost use Prim.Native.Nat.{_≤_};
 ghost use Rattle.terms.specs.Decides.{Decides};
 ghost use Rattle.rules.specs.Contexts.{context, ContextsInTable};
-ghost use Rattle.rules.specs.RuleTable.{IsRule, countedFrom, Adds};
+ghost use Rattle.rules.specs.RuleTable.{IsRule, ruleTable, countedFrom, Adds};
 ghost use Rattle.rules.specs.Stated.{usedPremises};
 ghost use Rattle.rules.specs.RuleChecks.{Shaped, ruleContexts};
 
@@ -66,6 +66,7 @@ fn fits_if_used(
 
 // Are the premises of `p`, `q`, `r`, `s` that the rule uses as the table asks? The others are not looked at.
 pub fn shaped(
+    table: &[u8; 670],
     terms: &[u8],
     contexts: &[u8],
     rule: usize,
@@ -75,11 +76,12 @@ pub fn shaped(
     r: LineJudgment,
     s: LineJudgment,
 ) -> bool
+    requires { ⌜ now table ≡ ruleTable ⌝ }
     requires { ⌜ IsRule rule ⌝ }
     requires { ⌜ ContextsInTable (now terms) (now contexts) (ruleContexts (usedPremises rule (p ∷ q ∷ r ∷ s ∷ [])) c) ⌝ }
     ensures { λ fit. ⌜ Decides fit (Shaped (now (terms .entry)) (now (contexts .entry)) rule (p ∷ q ∷ r ∷ s ∷ []) c) ⌝ }
 {
-    let row = rule_row(rule);
+    let row = rule_row(table, rule);
     let base = counted_from(terms, contexts, rule, c.context);
     fits_if_used(terms, contexts, base, row.form0, row.added0, p)
         & fits_if_used(terms, contexts, base, row.form1, row.added1, q)

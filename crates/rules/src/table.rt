@@ -5,9 +5,9 @@ ghost use Prim.Native.Nat.{_<_, _≤_};
 ghost use Rattle.rules.specs.RuleTable.{IsRule, ruleKnown, ruleTable, tableAt, premiseCount, ruleRow, formOf};
 
 // Rules count from 1.
-const RULE_COUNT: usize = 43;
+const RULE_COUNT: usize = 67;
 
-const TABLE: [u8; 430] = [
+const TABLE: [u8; 670] = [
     // 1 WF-NIL
     0,
     0,
@@ -481,6 +481,270 @@ const TABLE: [u8; 430] = [
     0,
     255,
     255,
+    // 44 N-ABS
+    4,
+    1,
+    4,
+    255,
+    255,
+    255,
+    0,
+    255,
+    255,
+    255,
+    // 45 N-PAIR
+    4,
+    2,
+    4,
+    4,
+    255,
+    255,
+    0,
+    0,
+    255,
+    255,
+    // 46 N-PI
+    4,
+    2,
+    4,
+    4,
+    255,
+    255,
+    0,
+    0,
+    255,
+    255,
+    // 47 N-SIG
+    4,
+    2,
+    4,
+    4,
+    255,
+    255,
+    0,
+    0,
+    255,
+    255,
+    // 48 N-SUCC
+    4,
+    1,
+    4,
+    255,
+    255,
+    255,
+    0,
+    255,
+    255,
+    255,
+    // 49 N-UNIV
+    4,
+    0,
+    255,
+    255,
+    255,
+    255,
+    255,
+    255,
+    255,
+    255,
+    // 50 N-SNE
+    4,
+    1,
+    5,
+    255,
+    255,
+    255,
+    0,
+    255,
+    255,
+    255,
+    // 51 N-ZERO
+    4,
+    0,
+    255,
+    255,
+    255,
+    255,
+    255,
+    255,
+    255,
+    255,
+    // 52 N-NAT
+    4,
+    0,
+    255,
+    255,
+    255,
+    255,
+    255,
+    255,
+    255,
+    255,
+    // 53 N-EXP
+    4,
+    2,
+    6,
+    4,
+    255,
+    255,
+    0,
+    0,
+    255,
+    255,
+    // 54 N-VAR
+    5,
+    0,
+    255,
+    255,
+    255,
+    255,
+    255,
+    255,
+    255,
+    255,
+    // 55 N-APP
+    5,
+    2,
+    5,
+    4,
+    255,
+    255,
+    0,
+    0,
+    255,
+    255,
+    // 56 N-PROJ1
+    5,
+    1,
+    5,
+    255,
+    255,
+    255,
+    0,
+    255,
+    255,
+    255,
+    // 57 N-PROJ2
+    5,
+    1,
+    5,
+    255,
+    255,
+    255,
+    0,
+    255,
+    255,
+    255,
+    // 58 N-IND
+    5,
+    4,
+    4,
+    5,
+    4,
+    4,
+    0,
+    0,
+    0,
+    0,
+    // 59 N-APPABS
+    6,
+    1,
+    4,
+    255,
+    255,
+    255,
+    0,
+    255,
+    255,
+    255,
+    // 60 N-APPCONG
+    6,
+    2,
+    4,
+    6,
+    255,
+    255,
+    0,
+    0,
+    255,
+    255,
+    // 61 N-PROJPAIR1
+    6,
+    1,
+    4,
+    255,
+    255,
+    255,
+    0,
+    255,
+    255,
+    255,
+    // 62 N-PROJPAIR2
+    6,
+    1,
+    4,
+    255,
+    255,
+    255,
+    0,
+    255,
+    255,
+    255,
+    // 63 N-PROJCONG1
+    6,
+    1,
+    6,
+    255,
+    255,
+    255,
+    0,
+    255,
+    255,
+    255,
+    // 64 N-PROJCONG2
+    6,
+    1,
+    6,
+    255,
+    255,
+    255,
+    0,
+    255,
+    255,
+    255,
+    // 65 N-INDZERO
+    6,
+    3,
+    4,
+    4,
+    4,
+    255,
+    0,
+    0,
+    0,
+    255,
+    // 66 N-INDSUC
+    6,
+    4,
+    4,
+    4,
+    4,
+    4,
+    0,
+    0,
+    0,
+    0,
+    // 67 N-INDCONG
+    6,
+    4,
+    4,
+    4,
+    4,
+    6,
+    0,
+    0,
+    0,
+    0,
 ];
 
 // What a rule asks of its premises: how many there are, the forms of four, and how many entries their contexts add; 255
@@ -504,9 +768,15 @@ pub fn is_rule(rule: usize) -> bool
     (1 <= rule) & (rule <= RULE_COUNT)
 }
 
-// The number in a rule's row, columns counted from 0. The table is lent, because each use of the constant makes all its
-// bytes anew.
-fn table_at(table: &[u8; 430], rule: usize, column: usize) -> usize
+// The table, for a whole sheet: the compiler makes a constant array anew wherever one is used.
+pub fn rule_table() -> [u8; 670]
+    ensures { λ r. ⌜ r ≡ ruleTable ⌝ }
+{
+    TABLE
+}
+
+// The number in a rule's row, columns counted from 0.
+fn table_at(table: &[u8; 670], rule: usize, column: usize) -> usize
     requires { ⌜ now table ≡ ruleTable ⌝ }
     requires { ⌜ IsRule rule × (column < 10) ⌝ }
     ensures { λ r. ⌜ r ≡ tableAt rule column ⌝ }
@@ -514,13 +784,12 @@ fn table_at(table: &[u8; 430], rule: usize, column: usize) -> usize
     table[10 * (rule - 1) + column] as usize
 }
 
-// What the rule asks of its premises. The compiler makes a constant array anew wherever one is used: here once for all
-// nine reads.
-pub fn rule_row(rule: usize) -> RuleRow
+// What the rule asks of its premises.
+pub fn rule_row(table: &[u8; 670], rule: usize) -> RuleRow
+    requires { ⌜ now table ≡ ruleTable ⌝ }
     requires { ⌜ IsRule rule ⌝ }
     ensures { λ r. ⌜ r ≡ ruleRow rule ⌝ }
 {
-    let table = &TABLE;
     RuleRow {
         count: table_at(table, rule, 1),
         form0: table_at(table, rule, 2),
@@ -535,13 +804,13 @@ pub fn rule_row(rule: usize) -> RuleRow
 }
 
 // How many premises the rule has.
-pub fn premise_count(rule: usize) -> usize
+pub fn premise_count(table: &[u8; 670], rule: usize) -> usize
+    requires { ⌜ now table ≡ ruleTable ⌝ }
     requires { ⌜ IsRule rule ⌝ }
     ensures value { λ r. ⌜ r ≡ premiseCount rule ⌝ }
     ensures range { λ r. ⌜ r ≤ 4 ⌝ }
 {
-    let row = rule_row(rule);
-    row.count
+    table_at(table, rule, 1)
 }
 
 // The form of the conclusion, by the ranges of rules; 255 where there is no such rule.
@@ -552,7 +821,10 @@ pub fn conclusion_form(rule: usize) -> usize
         1..=2 => 0,
         3..=16 => 1,
         17..=34 => 2,
-        35..=RULE_COUNT => 3,
+        35..=43 => 3,
+        44..=53 => 4,
+        54..=58 => 5,
+        59..=RULE_COUNT => 6,
         _ => 255,
     }
 }

@@ -16,41 +16,42 @@ use Rattle.terms.proofs.TableLaws as terms-check
 use Rattle.rules.specs.Contexts.{checkContexts}
 use Rattle.rules.specs.Subjects.{lastForm, usesSubject, subjectsOf, useOf}
 use Rattle.rules.specs.RuleTable.{ruleKnown, formOf, premiseCount}
-use Rattle.rules.specs.Stated.{Numbered, usedPremises}
+use Rattle.rules.specs.Stated.{lastContext, Numbered, usedPremises}
 use Rattle.rules.specs.RuleChecks.{LineInTables}
 use Rattle.rules.specs.declared.judgments.LineJudgment.{LineJudgment}
 use Rattle.rules.specs.declared.judgments.SubjectUse.{SubjectUse}
 use Rattle.rules.specs.declared.contexts.ContextsAnswer.{ContextsAnswer}
 use Rattle.rules.specs.declared.contexts.ContextsAnswer.the-variants as context
-use Rattle.rules.proofs.SubjectLaws.{unused-past, by-place}
+use Rattle.rules.proofs.SubjectLaws.{unused-past, by-place, says-context}
 use Rattle.rules.proofs.ContextTableCheckLaws as contexts-check
 use Rattle.rules.proofs.ArmLaws.{numbered-taken}
 use Rattle.rules.proofs.RuleTableEntries.{says-rule}
 use Rattle.rules_demo.specs.Cases.{Tables, Case}
 
--- what is asked only of what is used
-if-used : (used : Bool) {P : Type 0} {r : Bool} → Decides r P → Decides (not used || r) (used ≡ true → P)
-if-used true d = (λ h u. d .0 h, λ p. d .1 (p refl))
-if-used false d = (λ h u. never u refl, λ p. refl)
+-- what is asked only of a subject that is used
+if-used : {P : Type 0} (u : Bool) {s : Bool} → Decides s P → Decides (not u || s) (u ≡ true → P)
+if-used true d = (λ h u. d .0 h, λ f. d .1 (f refl))
+if-used false d = (λ h u. never u refl, λ f. refl)
 
 module _ (t n : ℕ) where
-  pub numbered-says : (j : LineJudgment) (u : SubjectUse)
-      → u ≡ useOf (j .form)
+  pub numbered-says : (j : LineJudgment) {u : SubjectUse} {last : ℕ}
+      → u ≡ useOf (j .form) → last ≡ lastContext (j .form) n
       → Decides
-      (leb (j .form) lastForm && leb (j .context) n && (not (u .s1) || ltb (j .s1) t) && (not (u .s2) || ltb (j .s2) t)
-      && (not (u .s3) || ltb (j .s3) t))
+      (leb (j .form) lastForm && leb (j .context) last && (not (u .s1) || ltb (j .s1) t)
+      && (not (u .s2) || ltb (j .s2) t) && (not (u .s3) || ltb (j .s3) t))
       (Numbered t n j)
   unfolding subjectsOf
-  numbered-says j u e =
-      rw e
+  numbered-says j e f =
+      rw (e, f)
       (decides-via (
         λ h. record {
           form = h .0 .0 .0 .0;
-          within = h .0 .0 .0 .1;
+          within = h .0 .0 .0 .1 .0;
+          empty = h .0 .0 .0 .1 .1;
           subjects = by-place Below (h .0 .0 .1) (h .0 .1) (h .1) (λ k u. never u (unused-past (j .form) k));
         },
-        λ m. ((((m .form, m .within), m .subjects 0), m .subjects 1), m .subjects 2),
-      ) (says-le (j .form) lastForm & says-le (j .context) n & at 0 & at 1 & at 2))
+        λ m. ((((m .form, (m .within, m .empty)), m .subjects 0), m .subjects 1), m .subjects 2),
+      ) (says-le (j .form) lastForm & says-context (j .form) n (j .context) & at 0 & at 1 & at 2))
     where
       Below : ℕ → Type 0
       Below k = usesSubject (j .form) k ≡ true → getD (subjectsOf j) k 0 < t

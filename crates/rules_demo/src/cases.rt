@@ -1,6 +1,7 @@
 // Cases, 26 words each: the rule, the conclusion and four premises, zeros for those that there are not.
 use rules::instances::is_instance;
 use rules::judgments::LineJudgment;
+use rules::judgments::last_context;
 use rules::judgments::subject_use;
 use rules::table::conclusion_form;
 use rules::table::is_rule;
@@ -10,8 +11,12 @@ ghost use mathlib.Core.List.{[], _∷_};
 ghost use Prim.Native.Nat.{_+_, _*_, _<_, _≤_};
 ghost use lib.ListN.{length};
 ghost use Rattle.terms.specs.Decides.{Decides};
+ghost use Rattle.rules.specs.RuleTable.{ruleTable};
 ghost use Rattle.rules.specs.Stated.{Numbered, Follows};
 ghost use Rattle.rules_demo.specs.Cases.{caseJudgment, Tables, Case, Answered};
+
+// Forms count from 0.
+const LAST_FORM: usize = 6;
 
 pub enum Answer {
     Instance,
@@ -34,13 +39,13 @@ fn judgment_at(cases: &[u8], number: usize, j: usize) -> LineJudgment
     }
 }
 
-// Are the numbers that the judgment's form uses in range?
+// Are the numbers that the judgment's form uses in range, and does it stand in a context where its form may?
 fn is_numbered(t: usize, n: usize, j: LineJudgment) -> bool
     ensures { λ r. ⌜ Decides r (Numbered t n j) ⌝ }
 {
     let used = subject_use(j.form);
-    (j.form <= 3)
-        & (j.context <= n)
+    (j.form <= LAST_FORM)
+        & (j.context <= last_context(j.form, n))
         & (!used.s1 | (j.s1 < t))
         & (!used.s2 | (j.s2 < t))
         & (!used.s3 | (j.s3 < t))
@@ -69,6 +74,7 @@ fn is_case(
 }
 
 fn answer_to(
+    table: &[u8; 670],
     terms: &[u8],
     t: usize,
     contexts: &[u8],
@@ -80,11 +86,12 @@ fn answer_to(
     r: LineJudgment,
     s: LineJudgment,
 ) -> Answer
+    requires { ⌜ now table ≡ ruleTable ⌝ }
     requires { ⌜ Tables (now terms) t (now contexts) n ⌝ }
     ensures { λ a. ⌜ Answered a (Case t n rule (p ∷ q ∷ r ∷ s ∷ []) c) (Follows (now (terms .entry)) (now (contexts .entry)) rule (p ∷ q ∷ r ∷ s ∷ []) c) ⌝ }
 {
     if is_case(t, n, rule, c, p, q, r, s) {
-        if is_instance(terms, contexts, rule, c, p, q, r, s) {
+        if is_instance(table, terms, contexts, rule, c, p, q, r, s) {
             return Answer::Instance;
         }
         return Answer::Refused;
@@ -111,7 +118,16 @@ fn write_line(rule: usize, number: usize, answer: Answer) {
 }
 
 // Runs case `number`.
-fn run(terms: &[u8], t: usize, contexts: &[u8], n: usize, cases: &[u8], number: usize)
+fn run(
+    table: &[u8; 670],
+    terms: &[u8],
+    t: usize,
+    contexts: &[u8],
+    n: usize,
+    cases: &[u8],
+    number: usize,
+)
+    requires { ⌜ now table ≡ ruleTable ⌝ }
     requires { ⌜ Tables (now terms) t (now contexts) n × (52 * number + 52 ≤ length (now cases)) ⌝ }
 {
     let rule = word_at(cases, 26 * number);
@@ -123,17 +139,26 @@ fn run(terms: &[u8], t: usize, contexts: &[u8], n: usize, cases: &[u8], number: 
     write_line(
         rule,
         number,
-        answer_to(terms, t, contexts, n, rule, c, p, q, r, s),
+        answer_to(table, terms, t, contexts, n, rule, c, p, q, r, s),
     );
 }
 
 // Runs so many cases.
-pub fn run_all(terms: &[u8], t: usize, contexts: &[u8], n: usize, cases: &[u8], many: usize)
+pub fn run_all(
+    table: &[u8; 670],
+    terms: &[u8],
+    t: usize,
+    contexts: &[u8],
+    n: usize,
+    cases: &[u8],
+    many: usize,
+)
+    requires { ⌜ now table ≡ ruleTable ⌝ }
     requires { ⌜ Tables (now terms) t (now contexts) n × (52 * many ≤ length (now cases)) ⌝ }
 {
     let mut number = 0;
     while number < many {
-        run(terms, t, contexts, n, cases, number);
+        run(table, terms, t, contexts, n, cases, number);
         number += 1;
     }
 }

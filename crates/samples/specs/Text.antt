@@ -1,4 +1,4 @@
--- The words of a line, and the output's length that one of them names.
+-- The words of a line, and the length that one of them names.
 use mathlib.Core.Bool.{cond}
 use mathlib.Core.List.{List}
 use Prim.Native.Nat.{ℕ, zero, suc}
@@ -12,7 +12,7 @@ unfoldable pub wordOf : ℕ → List ℕ → List ℕ
 wordOf zero text = upTo 32 text
 wordOf (suc n) text = wordOf n (past 32 text)
 
--- an output of so many bytes, at most as many as a sheet can have; room for every sheet where no number is read
-unfoldable pub roomOf : Reading → ℕ
-roomOf (Number n) = cond (ltb 52240 n) 52240 n
-roomOf Unreadable = 52240
+-- a length that is named, at most that of the longest sheet, which it is where no number is read
+unfoldable pub lengthOf : Reading → ℕ
+lengthOf (Number n) = cond (ltb 52240 n) 52240 n
+lengthOf Unreadable = 52240

@@ -1,9 +1,10 @@
 // Runs the samples. Each line of a list names a sheet and the numbers that go with it, or dates; the program writes the
-// line and the answer. A sheet that is left after a withdrawal is admitted on a line of its own.
+// line and the answer. A sheet that is left after a withdrawal is admitted on a line of its own. The sheets of a bundle
+// stand one behind the other in one file, in the order of its list, where each has its length beside its name.
 mod text;
 
+use crate::text::length_in;
 use crate::text::number_in;
-use crate::text::room_in;
 use answers::input::read_sheet;
 use answers::numbers::Reading;
 use answers::numbers::Request;
@@ -28,6 +29,7 @@ enum Task {
     Window,
     Day,
     Normal,
+    Bundled(i32),
 }
 
 // Admits a sheet.
@@ -75,7 +77,7 @@ fn withdraw_number(sheet: &[u8], line: &[u8]) {
         io::write_all(STDOUT_FILENO, b"unreadable\n");
         return;
     };
-    let room = room_in(line);
+    let room = length_in(line, 2);
     let mut out = [0u8; 52240];
     withdraw_line(sheet, number, &mut out[..room]);
 }
@@ -120,6 +122,19 @@ fn number_day(line: &[u8]) {
     }
 }
 
+// Admits the sheet that comes next in a bundle, which fills the buffer.
+fn admit_next(bundle: i32, sheet: &mut [u8]) {
+    let length = io::read_full(bundle, sheet);
+    admit_whole(&sheet[..length]);
+}
+
+// The same, as long as a line of the list says.
+fn admit_bundled(bundle: i32, line: &[u8]) {
+    let length = length_in(line, 1);
+    let mut sheet = [0u8; 52240];
+    admit_next(bundle, &mut sheet[..length]);
+}
+
 // Runs one line of a list of sheets.
 fn run_sheet(line: &[u8], task: Task) {
     let end = place_of(line, 0, b' ');
@@ -146,6 +161,7 @@ fn run_line(line: &[u8], task: Task) {
     match task {
         Task::Window => ask_window(line),
         Task::Day => number_day(line),
+        Task::Bundled(bundle) => admit_bundled(bundle, line),
         _ => run_sheet(line, task),
     }
 }
@@ -160,12 +176,20 @@ fn run_lines(list: &[u8], task: Task) {
     }
 }
 
-// Runs the list that a file holds.
-fn run_list(path: &[u8], task: Task) {
+// Opens a file, or says that it was not opened.
+fn open_named(path: &[u8]) -> i32 {
     let fd = os::open_read(path);
     if fd < 0 {
         io::write_all(STDOUT_FILENO, path);
         io::write_all(STDOUT_FILENO, b" not opened\n");
+    }
+    fd
+}
+
+// Runs the list that a file holds.
+fn run_list(path: &[u8], task: Task) {
+    let fd = open_named(path);
+    if fd < 0 {
         return;
     }
     // longer than any of the lists: one that was cut would lack answers
@@ -175,6 +199,16 @@ fn run_list(path: &[u8], task: Task) {
     run_lines(&list[..length], task);
 }
 
+// Admits the sheets of a bundle.
+fn run_bundle(path: &[u8], list: &[u8]) {
+    let bundle = open_named(path);
+    if bundle < 0 {
+        return;
+    }
+    run_list(list, Task::Bundled(bundle));
+    libc::close(bundle);
+}
+
 fn main() {
     run_list(b"admit.list", Task::Admit);
     run_list(b"find.list", Task::Find);
@@ -182,4 +216,5 @@ fn main() {
     run_list(b"window.list", Task::Window);
     run_list(b"days.list", Task::Day);
     run_list(b"normal.list", Task::Normal);
+    run_bundle(b"normalisation.sheets", b"normalisation.list");
 }

@@ -6,7 +6,7 @@ use answers::parts::place_of;
 ghost use mathlib.Core.Path.{_≡_};
 ghost use Prim.Native.Nat.{_≤_};
 ghost use Rattle.answers.specs.Numbers.{readNumber};
-ghost use Rattle.samples.specs.Text.{wordOf, roomOf};
+ghost use Rattle.samples.specs.Text.{wordOf, lengthOf};
 
 // The number that word `n` of a line spells, counted from 0.
 pub fn number_in(line: &[u8], n: usize) -> Reading
@@ -22,16 +22,16 @@ pub fn number_in(line: &[u8], n: usize) -> Reading
     read_number(&line[start..end])
 }
 
-// The output's length that word 2 of a line names; room for every sheet where it names none.
-pub fn room_in(line: &[u8]) -> usize
-    ensures value { λ r. ⌜ r ≡ roomOf (readNumber (wordOf 2 (now (line .entry)))) ⌝ }
+// The length that word `n` of a line names, at most that of a sheet; the greatest where it names none.
+pub fn length_in(line: &[u8], n: usize) -> usize
+    ensures value { λ r. ⌜ r ≡ lengthOf (readNumber (wordOf n (now (line .entry)))) ⌝ }
     ensures range { λ r. ⌜ r ≤ 52240 ⌝ }
 {
-    let Reading::Number(room) = number_in(line, 2) else {
+    let Reading::Number(length) = number_in(line, n) else {
         return 52240;
     };
-    if 52240 < room {
+    if 52240 < length {
         return 52240;
     }
-    room
+    length
 }

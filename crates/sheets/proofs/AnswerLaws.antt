@@ -21,7 +21,7 @@ use Rattle.sheets.specs.declared.admission.Admission.{Admission}
 use Rattle.sheets.specs.declared.admission.Admission.the-variants.{Accepted, Refused}
 use Rattle.sheets.specs.declared.finding.Wanted.{Wanted}
 use Rattle.sheets.specs.declared.finding.Found.{Found}
-use Rattle.sheets.specs.Layout.{contextsIn, linesIn, layoutOf}
+use Rattle.sheets.specs.Layout.{editionOf, contextsIn, linesIn, layoutOf}
 use Rattle.sheets.specs.Lines.{checkLines}
 use Rattle.sheets.specs.Admission.{afterLines, afterContexts, afterTerms, afterLayout, admitOf, workFrom, workAfter}
 use Rattle.sheets.specs.Finding.{searchLines, findAfter, findOf}
@@ -74,9 +74,12 @@ module _ (bytes : List ℕ) (T C L : ℕ) where
     pub lines-whole : 20 * L ≤ length (take (length bytes - (10 * T + 4 * C)) (drop (10 * T + 4 * C) bytes))
     lines-whole = omega (arith, accepted-laid .long, length-drop (10 * T + 4 * C) bytes, ap length (part-to-end bytes (10 * T + 4 * C)))
 
-    pub find-searched : (w : Wanted) (r : Found) → r ≡ searchLines (take (length bytes - (10 * T + 4 * C)) (drop (10 * T + 4 * C) bytes)) L w → r ≡ findOf bytes work w
+    pub find-searched : (w : Wanted) {edition : ℕ} → edition ≡ editionOf bytes → (r : Found)
+        → r ≡ searchLines edition (take (length bytes - (10 * T + 4 * C)) (drop (10 * T + 4 * C) bytes)) L w
+        → r ≡ findOf bytes work w
     unfolding findOf findAfter linesIn
-    find-searched w r f = f ∙ ap (λ l. searchLines l L w) (part-to-end bytes (10 * T + 4 * C)) ∙ ap (findAfter bytes w) (sym h ∙ e)
+    find-searched w own r f =
+        f ∙ (λ i. searchLines (own i) (part-to-end bytes (10 * T + 4 * C) i) L w) ∙ ap (findAfter bytes w) (sym h ∙ e)
 
 pub layout-wrong : (bytes before : List ℕ) (number : ℕ) (a : Layout) → a ≡ layoutOf bytes (length before) → a ≡ Wrong number
     → (Refused number 0 ≡ admitOf bytes (length before)) × (before ≡ workAfter bytes before)

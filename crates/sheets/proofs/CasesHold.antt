@@ -8,12 +8,13 @@ use Rattle.terms.specs.Rows.{word, tag, termTo, term, rowOf, holdsRow}
 use Rattle.terms.specs.Table.{usedLimit, limit}
 use Rattle.terms.specs.Search.{searchFrom, endsIf}
 use Rattle.terms.specs.Sizes.{fitsRow, repeatedBelow, sumTo, rowSize, sizeAnswer, rowAnswer, rowStep, checkTerms}
+use Rattle.rules.specs.Editions.{editionKnown, lastRule, rowIn}
 use Rattle.rules.specs.Subjects.{usesSubject}
 use Rattle.rules.specs.RuleTable.{ruleKnown, formOf, premiseCount}
 use Rattle.rules.specs.Decision.{instance?}
 use Rattle.rules.specs.Contexts.{parentOf, typeOf, contextTo, context, contextFits, holdsContext, repeatedWithin, repeatedContext, rightContext, checkContexts}
-use Rattle.rules.specs.Stated.{stated, plainJudgment}
-use Rattle.sheets.specs.Layout.{contextsIn, linesIn, trailerWord, trailerOf, lengthFits, markFits, limitsFit, distancesFit, countsFit, trailerAnswer, layoutOf}
+use Rattle.rules.specs.Stated.{lastContext, stated, plainJudgment}
+use Rattle.sheets.specs.Layout.{contextsIn, linesIn, trailerWord, trailerOf, editionOf, lengthFits, markFits, limitsFit, distancesFit, countsFit, trailerAnswer, layoutOf}
 use Rattle.sheets.specs.Lines.{lineWord, lineOf, judgmentOf, premisesOf, citedBy, below, subjectsFit, premisesFit, ruleFits, numbersFit, lineFits, lineAt, statedAt, lineFollows?, lineStep, checkLines}
 use Rattle.sheets.specs.Admission.{afterLines, afterContexts, afterTerms, afterLayout, admitOf, workFrom, workAfter}
 use Rattle.terms.specs.Lists.{listed}
@@ -23,9 +24,10 @@ use Rattle.sheets.specs.Cases.{sharedWords, wordsOfS, wordsOfM9, answerT
 pub cases-hold : map answered cases ≡ map expected cases
 unfolding tagOf arity used shape wordAt word tag termTo term usedLimit limit
     rowOf fitsRow holdsRow repeatedBelow sumTo rowSize sizeAnswer rowAnswer rowStep checkTerms searchFrom endsIf
-    usesSubject ruleKnown formOf premiseCount instance? stated plainJudgment
+    editionKnown lastRule rowIn usesSubject ruleKnown formOf premiseCount instance? lastContext stated plainJudgment
     parentOf typeOf contextTo context contextFits holdsContext repeatedWithin repeatedContext rightContext checkContexts
-    contextsIn linesIn trailerWord trailerOf lengthFits markFits limitsFit distancesFit countsFit trailerAnswer layoutOf
+    contextsIn linesIn trailerWord trailerOf editionOf
+    lengthFits markFits limitsFit distancesFit countsFit trailerAnswer layoutOf
     lineWord lineOf judgmentOf premisesOf citedBy below subjectsFit premisesFit ruleFits numbersFit lineFits lineAt statedAt lineFollows? lineStep checkLines
     afterLines afterContexts afterTerms afterLayout admitOf workFrom workAfter
     listed uses firstUse newLength afterUse afterLine withdrawAfter withdrawOf lowerPremise lowered trailerLoses oldPlace newWord sheetWithout withoutLine outFrom outAfter

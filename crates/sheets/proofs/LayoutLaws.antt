@@ -13,10 +13,11 @@ use borrow.Author.Tests.{leb-true, leb-false, le-leb, lt-leb}
 use Rattle.terms.specs.Decides.{Decides}
 use Rattle.terms.specs.Words.{wordAt}
 use Rattle.terms.proofs.Tests.{either, refutes, says-le, says-eq, refuted, _&_}
+use Rattle.rules.proofs.EditionLaws.{says-edition}
 use Rattle.sheets.specs.declared.layout.Trailer.{Trailer}
 use Rattle.sheets.specs.declared.layout.Layout.{Layout}
 use Rattle.sheets.specs.declared.layout.Layout.the-variants.{Counted, Wrong}
-use Rattle.sheets.specs.Layout.{trailerWord, trailerOf, toLines, toContexts, toTerms, lengthFits, markFits, limitsFit, distancesFit, countsFit, trailerAnswer, layoutOf}
+use Rattle.sheets.specs.Layout.{trailerWord, trailerOf, editionOf, toLines, toContexts, toTerms, lengthFits, markFits, limitsFit, distancesFit, countsFit, trailerAnswer, layoutOf}
 use Rattle.sheets.specs.GoodLayout.{trailerFor, LaidOut, RightLength, Marked, LayoutFault, wrongLength, notMarked, disagreeing, shortWork}
 
 pub length-says : (n : ℕ) → Decides (lengthFits n) ((16 ≤ n) × (n ≤ 52240))
@@ -25,7 +26,7 @@ length-says n = says-le 16 n & says-le n 52240
 
 pub mark-says : (t : Trailer) → Decides (markFits t) (Marked t)
 unfolding markFits
-mark-says t = says-eq (t .mark) 0x4C44 & says-eq (t .edition) 1
+mark-says t = says-eq (t .mark) 0x4C44 & says-edition (t .edition)
 
 -- number 3, limits
 abbrev Limited : Trailer → Type 0
@@ -117,26 +118,27 @@ module _ (bytes : List ℕ) where
   laid-passes T C L h =
       subst (λ t. RightLength bytes × Marked t × Limited t × Agreeing t (length bytes)) (sym (h .trailer)) (
         (omega (arith, h .long, h .fewTerms, h .fewContexts, h .fewLines), omega (arith, h .long, h .fewTerms, h .fewContexts, h .fewLines)),
-        (refl, refl),
+        (refl, h .edition),
         ((h .fewTerms, h .fewContexts), h .fewLines),
         (((refl, refl), refl), h .long),
       )
 
   passes-laid : Marked (trailerOf bytes) → Limited (trailerOf bytes) → Agreeing (trailerOf bytes) (length bytes)
       → LaidOut bytes (trailerOf bytes .terms) (trailerOf bytes .contexts) (trailerOf bytes .lines)
-  unfolding trailerFor
+  unfolding trailerFor trailerOf editionOf
   passes-laid m l a =
       record {
         trailer = λ i. record {
           terms = trailerOf bytes .terms;
           contexts = trailerOf bytes .contexts;
           lines = trailerOf bytes .lines;
-          edition = m .1 i;
+          edition = editionOf bytes;
           «to_terms» = a .0 .0 .0 i;
           «to_contexts» = a .0 .0 .1 i;
           «to_lines» = a .0 .1 i;
           mark = m .0 i;
         };
+        edition = m .1;
         fewTerms = l .0 .0;
         fewContexts = l .0 .1;
         fewLines = l .1;

@@ -9,18 +9,19 @@ use native.Mathlib.Nat.{eq-or-lt-of-le}
 use native.Mathlib.Decide.{decLe}
 use native.Mathlib.Omega.{arith}
 use lib.ListN.{length, getD, take, drop, length-drop}
+use Rattle.terms.specs.Search.{searchFrom}
 use Rattle.terms.specs.Decides.{Decides}
 use Rattle.terms.proofs.Tests.{refuted, decides-via}
 use Rattle.terms.proofs.Shape.{below-or-last}
 use Rattle.terms.proofs.SearchLaws.{Ahead, ahead-start, ahead-end, ahead-ends, ahead-goes, good-goes, bad-ends}
-use Rattle.rules.specs.RuleTable.{IsRule, premiseCount}
+use Rattle.rules.specs.RuleTable.{ruleTable, IsRule, premiseCount}
 use Rattle.rules.specs.Stated.{Numbered, usedPremises, Follows}
 use Rattle.rules.specs.RuleChecks.{LineInTables}
 use Rattle.rules.specs.declared.judgments.LineJudgment.{LineJudgment}
 use Rattle.rules.proofs.ArmLaws.{numbered-taken}
 use Rattle.sheets.specs.declared.lines.Line.{Line}
 use Rattle.sheets.specs.declared.lines.LinesAnswer.the-variants.{NoFault, Faulty}
-use Rattle.sheets.specs.Layout.{contextsIn, linesIn}
+use Rattle.sheets.specs.Layout.{editionOf, contextsIn, linesIn}
 use Rattle.sheets.specs.Lines.{lineOf, judgmentOf, premisesOf, lineAt, ruleFits, numbersFit, lineFits, LineFollows, lineStep, checkLines}
 use Rattle.sheets.specs.Good.{WellFormedTables, GoodBefore}
 use Rattle.sheets.specs.GoodLines.{LineOk, GoodLine, LineFault, misfit, noInstance}
@@ -41,23 +42,34 @@ module _ (l : Line) (n T C : ℕ) (r : Bool) (e : r ≡ ruleFits l) where
   pub rule-known : r ≡ true → IsRule (l .rule)
   rule-known h = rule-says l n T C .0 (sym e ∙ h) .0
 
--- `check_lines`: before line n the check of the lines ahead answers for the whole
+-- where there are no lines
+pub no-lines : (bytes : List ℕ) (T C count : ℕ) → count ≡ 0 → NoFault ≡ checkLines bytes T C count
+unfolding checkLines searchFrom
+no-lines bytes T C count e = sym (ap (checkLines bytes T C) e)
+
+-- `check_lines`, which reads the lines in the sheet's edition and makes the rule table once: before line n the check of
+-- the lines ahead answers for the whole
 module _ (bytes : List ℕ) (T C count : ℕ) (tables : WellFormedTables bytes T C count) where
-  pub record Walked (lines : List ℕ) (n : ℕ) : Type 0 where
+  pub record Walked (edition : ℕ) (table lines : List ℕ) (n : ℕ) : Type 0 where
+    pub own : edition ≡ editionOf bytes
+    pub made : table ≡ ruleTable
     pub part : lines ≡ linesIn bytes T C
     pub before : (k : ℕ) → k < n → GoodLine bytes T C k
     pub ahead : Ahead (λ k _. lineStep bytes T C k) (λ _. NoFault) count (checkLines bytes T C count) n tt
 
-  pub walked-start : Walked (take (length bytes - (10 * T + 4 * C)) (drop (10 * T + 4 * C) bytes)) 0
+  pub walked-start : {edition : ℕ} {table : List ℕ} → edition ≡ editionOf bytes → table ≡ ruleTable
+      → Walked edition table (take (length bytes - (10 * T + 4 * C)) (drop (10 * T + 4 * C) bytes)) 0
   unfolding linesIn checkLines
-  walked-start =
+  walked-start own made =
       record {
+        own = own;
+        made = made;
         part = part-to-end bytes (10 * T + 4 * C);
         before = λ k h. absurd (omega arith);
         ahead = ahead-start count (omega arith) refl;
       }
 
-  module _ (lines : List ℕ) (n : ℕ) (at : Walked lines n) where
+  module _ {edition : ℕ} {table lines : List ℕ} {n : ℕ} (at : Walked edition table lines n) where
     pub walked-end : count ≤ n → NoFault ≡ checkLines bytes T C count
     walked-end h = ahead-end (at .ahead) h
 
@@ -66,10 +78,10 @@ module _ (bytes : List ℕ) (T C count : ℕ) (tables : WellFormedTables bytes T
     line-whole h = omega (arith, tables .laid .long, ap length (at .part), length-drop (10 * T + 4 * C) bytes)
 
     -- l is line n, and f what number 9 answers
-    module _ (h : n < count) (l : Line) (e : l ≡ lineOf lines n) (f : Bool) (g : f ≡ lineFits l n T C) where
+    module _ (h : n < count) (l : Line) (e : l ≡ lineOf edition lines n) (f : Bool) (g : f ≡ lineFits l n T C) where
       is-line : l ≡ lineAt bytes T C n
       unfolding lineAt
-      is-line = e ∙ ap (λ ls. lineOf ls n) (at .part)
+      is-line = e ∙ (λ i. lineOf (at .own i) (at .part i) n)
 
       ok-says : Decides f (LineOk (lineAt bytes T C n) n T C)
       ok-says = subst₂ (λ b m. Decides b (LineOk m n T C)) (sym g) is-line (line-says l n T C)
@@ -81,17 +93,23 @@ module _ (bytes : List ℕ) (T C count : ℕ) (tables : WellFormedTables bytes T
       walked-9 k = fault 9 (misfit (refuted ok-says k))
 
       module _ (k : f ≡ true) where
-        pub asked : GoodBefore bytes T C n × (l ≡ lineAt bytes T C n) × LineOk l n T C
-        asked = (record { count = count; within = h; tables = tables; before = at .before }, is-line, line-says l n T C .0 (sym g ∙ k))
+        pub asked : (table ≡ ruleTable)
+            × ((edition ≡ editionOf bytes) × (GoodBefore bytes T C n × (l ≡ lineAt bytes T C n) × LineOk l n T C))
+        asked = (at .made, (at .own, (before, is-line, line-says l n T C .0 (sym g ∙ k))))
+          where
+            before : GoodBefore bytes T C n
+            before = record { count = count; within = h; tables = tables; before = at .before }
 
         -- b is what number 10 answers
         module _ (b : Bool) (d : Decides b (LineFollows bytes T C n)) where
           pub walked-10 : b ≡ false → Faulty 10 n ≡ checkLines bytes T C count
           walked-10 z = fault 10 (noInstance (ok-says .0 k) (refuted d z))
 
-          pub walked-next : b ≡ true → Walked lines (n + 1)
+          pub walked-next : b ≡ true → Walked edition table lines (n + 1)
           walked-next z =
               record {
+                own = at .own;
+                made = at .made;
                 part = at .part;
                 before = λ m low. below-or-last (GoodLine bytes T C) n m (omega arith) (at .before m) good;
                 ahead = ahead-goes (at .ahead) h (good-goes (lines-tell bytes T C) n good);
@@ -148,12 +166,14 @@ module _ (bytes : List ℕ) (T C n : ℕ) (l : Line) (before : GoodBefore bytes 
       let b = named-at bytes T C n l is before ok j h in
       omega (arith, before .tables .laid .long, ap length (part-to-end bytes (10 * T + 4 * C)), length-drop (10 * T + 4 * C) bytes)
 
-  module _ (rows lines : List ℕ) (er : rows ≡ contextsIn bytes T) (el : lines ≡ linesIn bytes T C) (p q r s c : LineJudgment)
-      (ep : p ≡ judgmentOf (lineOf lines (l .p0))) (eq : q ≡ judgmentOf (lineOf lines (l .p1)))
-      (et : r ≡ judgmentOf (lineOf lines (l .p2))) (es : s ≡ judgmentOf (lineOf lines (l .p3))) (ec : c ≡ judgmentOf l) where
-    stands : (x : LineJudgment) (w : ℕ) → x ≡ judgmentOf (lineOf lines w) → x ≡ judgmentOf (lineAt bytes T C w)
+  module _ {edition : ℕ} (own : edition ≡ editionOf bytes) (rows lines : List ℕ) (er : rows ≡ contextsIn bytes T)
+      (el : lines ≡ linesIn bytes T C) (p q r s c : LineJudgment)
+      (ep : p ≡ judgmentOf (lineOf edition lines (l .p0))) (eq : q ≡ judgmentOf (lineOf edition lines (l .p1)))
+      (et : r ≡ judgmentOf (lineOf edition lines (l .p2))) (es : s ≡ judgmentOf (lineOf edition lines (l .p3)))
+      (ec : c ≡ judgmentOf l) where
+    stands : (x : LineJudgment) (w : ℕ) → x ≡ judgmentOf (lineOf edition lines w) → x ≡ judgmentOf (lineAt bytes T C w)
     unfolding lineAt
-    stands x w e = e ∙ ap (λ ls. judgmentOf (lineOf ls w)) el
+    stands x w e = e ∙ (λ i. judgmentOf (lineOf (own i) (el i) w))
 
     numbered : (j : ℕ) → j < 4 → (x : LineJudgment) → x ≡ judgmentOf (lineAt bytes T C (getD (premisesOf l) j 0)) → Numbered T C x
     numbered j h x e = subst (Numbered T C) (sym e) (named-numbered bytes T C n l is before ok j h)

@@ -1,23 +1,29 @@
--- Number 9 answers for its declarative reading.
+-- Number 9 answers for its declarative reading, and passes only a rule that the sheet's edition admits.
 -- Assumes nothing.
 use mathlib.Core.Path.{_≡_, refl, sym, subst}
 use mathlib.Core.Logic.{_↔_}
 use mathlib.Core.Bool.{Bool, true, false, _&&_}
+use mathlib.Core.List.{List}
 use Prim.Native.Nat.{ℕ, zero, suc, _≤_, _<_}
 use native.Mathlib.Omega.{arith}
-use lib.Dec.{ltb}
+use lib.Dec.{leb, ltb}
 use lib.ListN.{getD}
 use borrow.Author.Tests.{ltb-true, ltb-false, lt-ltb, le-ltb}
 use Rattle.terms.specs.Decides.{Decides}
-use Rattle.terms.proofs.Tests.{never, says-le, says-lt, says-eq, decides-via, _&_}
+use Rattle.terms.proofs.Tests.{never, says-lt, says-eq, decides-via, _&_}
+use Rattle.rules.specs.Editions.{lastRule}
 use Rattle.rules.specs.Subjects.{lastForm, usesSubject, subjectsOf, useOf}
 use Rattle.rules.specs.RuleTable.{IsRule, formOf, premiseCount}
+use Rattle.rules.specs.Stated.{lastFormInContext, lastContext}
 use Rattle.rules.specs.declared.judgments.LineJudgment.{LineJudgment}
 use Rattle.rules.specs.declared.judgments.SubjectUse.{SubjectUse}
-use Rattle.rules.proofs.SubjectLaws.{unused-past, by-place}
-use Rattle.rules.proofs.RuleTableEntries.{says-rule, form-small}
+use Rattle.rules.proofs.EditionLaws.{last-first, row-known, row-same}
+use Rattle.rules.proofs.SubjectLaws.{unused-past, by-place, says-context}
+use Rattle.rules.proofs.RuleTableEntries.{says-rule}
+use Rattle.rules.proofs.TableLaws.{form-small}
 use Rattle.sheets.specs.declared.lines.Line.{Line}
-use Rattle.sheets.specs.Lines.{judgmentOf, premisesOf, below, subjectsFit, premisesFit, ruleFits, numbersFit, lineFits}
+use Rattle.sheets.specs.Layout.{editionOf, linesIn}
+use Rattle.sheets.specs.Lines.{lineWord, lineOf, judgmentOf, premisesOf, below, subjectsFit, premisesFit, ruleFits, numbersFit, lineFits, lineAt}
 use Rattle.sheets.specs.GoodLines.{LineOk}
 
 -- `bound`
@@ -36,6 +42,14 @@ pub subjects-bound : (j : LineJudgment) (T : ℕ) {u : SubjectUse} {x y z : ℕ}
     → ltb (j .s1) x && ltb (j .s2) y && ltb (j .s3) z ≡ subjectsFit j T
 unfolding subjectsFit
 subjects-bound j T e ex ey ez = cc
+
+-- `numbers_fit`, where j is what the line states
+pub numbers-joined : (l : Line) (n T C : ℕ) {j : LineJudgment} {count last : ℕ} {s p : Bool}
+    → j ≡ judgmentOf l → count ≡ premiseCount (l .rule)
+    → last ≡ lastContext (j .form) C → s ≡ subjectsFit j T → p ≡ premisesFit l count n
+    → leb (l .context) last && s && p ≡ numbersFit l n T C
+unfolding numbersFit
+numbers-joined l n T C ej ec el es ep = cc
 
 -- a number is below the bound if it is used, else 0
 abbrev Kept : Bool → ℕ → ℕ → Type 0
@@ -90,6 +104,10 @@ premises-say l count n =
     says : (j : ℕ) → Decides (ltb (getD (premisesOf l) j 0) (below (ltb j count) n)) (PremiseOk l count n j)
     says j = says-kept (ltb j count) (getD (premisesOf l) j 0) n
 
+-- a context of a form that may stand in any is there; of another, it is context 0
+abbrev ContextOk : LineJudgment → ℕ → Type 0
+ContextOk j C = (j .context ≤ C) × (lastFormInContext < j .form → j .context ≡ 0)
+
 module _ (l : Line) (n T C : ℕ) where
   abbrev RuleOk : Type 0
   RuleOk = IsRule (l .rule) × (judgmentOf l .form ≡ formOf (l .rule))
@@ -99,21 +117,25 @@ module _ (l : Line) (n T C : ℕ) where
   rule-says = says-rule (l .rule) & says-eq _ _
 
   abbrev AllOk : Type 0
-  AllOk = RuleOk × (((l .context ≤ C) × SubjectsOk (judgmentOf l) T) × PremisesOk l (premiseCount (l .rule)) n)
+  AllOk =
+      RuleOk
+      × ((ContextOk (judgmentOf l) C × SubjectsOk (judgmentOf l) T) × PremisesOk l (premiseCount (l .rule)) n)
 
   all-ok : AllOk ↔ LineOk l n T C
   unfolding judgmentOf
   all-ok = (
     λ a.
         let r = a .0 in
+        let x = a .1 .0 .0 in
         let s = a .1 .0 .1 in
         let p = a .1 .1 in
         record {
           rule = r .0;
           form = r .1;
           numbers = record {
-            form = subst (λ m. m ≤ lastForm) (sym (r .1)) (form-small (l .rule) _ (r .0) refl);
-            within = a .1 .0 .0;
+            form = subst (λ m. m ≤ lastForm) (sym (r .1)) (form-small (l .rule) (r .0));
+            within = x .0;
+            empty = x .1;
             subjects = λ k. s k .0;
           };
           unusedSubject = λ k. s k .1;
@@ -123,7 +145,10 @@ module _ (l : Line) (n T C : ℕ) where
     λ o. (
       (o .rule, o .form),
       (
-        (o .numbers .within, λ k. (o .numbers .subjects k, o .unusedSubject k)),
+        (
+          (o .numbers .within, o .numbers .empty),
+          λ k. (o .numbers .subjects k, o .unusedSubject k),
+        ),
         λ j h. (λ k. o .earlier j h (ltb-true j _ k), λ k. o .unusedPremise j h (ltb-false j _ k)),
       ),
     ),
@@ -131,6 +156,22 @@ module _ (l : Line) (n T C : ℕ) where
 
   -- number 9 passes exactly if the line keeps the layout
   pub line-says : Decides (lineFits l n T C) (LineOk l n T C)
-  unfolding lineFits numbersFit
+  unfolding lineFits numbersFit judgmentOf
   line-says =
-      decides-via all-ok (rule-says & (says-le (l .context) C & subjects-say (judgmentOf l) T & premises-say l (premiseCount (l .rule)) n))
+      decides-via all-ok
+      (rule-says
+      & (says-context (l .form) C (l .context) & subjects-say (judgmentOf l) T
+      & premises-say l (premiseCount (l .rule)) n))
+
+-- a line that passes number 9 has a rule that its sheet's edition admits, and is judged by the row of that number
+module _ (b : List ℕ) (T C n : ℕ) where
+  pub rule-admitted : LineOk (lineAt b T C n) n T C
+      → (lineWord (linesIn b T C) n 1 ≤ lastRule (editionOf b)) × (lineAt b T C n .rule ≡ lineWord (linesIn b T C) n 1)
+  unfolding lineAt lineOf
+  rule-admitted ok =
+      let rule = lineWord (linesIn b T C) n 1 in
+      (row-known (editionOf b) rule .0 (ok .rule) .1, row-same (editionOf b) rule (ok .rule))
+
+  -- "An edition 1 sheet with a rule above 43 still gets 9" (document 02, A5)
+  pub old-rule : editionOf b ≡ 1 → 43 < lineWord (linesIn b T C) n 1 → LineOk (lineAt b T C n) n T C → ⊥
+  old-rule e h ok = omega (arith, rule-admitted ok .0, last-first (editionOf b) (omega (arith, e)))

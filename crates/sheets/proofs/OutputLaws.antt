@@ -61,11 +61,15 @@ module _ {old s t : List ℕ} {T C L n : ℕ} (a : LineAway old s T C L n) (c : 
       sym (word-drop s (10 * T + 4 * C) (linesStart T C) (10 * k + j) (omega arith)) ∙ line-same k j h l
       ∙ word-drop t (10 * T + 4 * C) (linesStart T C) (10 * k + j) (omega arith)
 
+  same-trailer : trailerOf s ≡ trailerOf t
+  same-trailer =
+      a .laid .trailer ∙ ap (λ e. trailerFor e T C (L - 1)) (a .edition ∙ sym (c .edition)) ∙ sym (c .laid .trailer)
+
   in-trailer : (j : ℕ) → j < 8 → wordAt s (linesEnd T C L + j) ≡ wordAt t (linesEnd T C L + j)
   unfolding trailerWord
   in-trailer j h =
       sym (word-drop s (length s - 16) (linesEnd T C L) j (omega (arith, a .laid .long)))
-      ∙ trailer-word s t (a .laid .trailer ∙ sym (c .laid .trailer)) j h
+      ∙ trailer-word s t same-trailer j h
       ∙ word-drop t (length t - 16) (linesEnd T C L) j (omega (arith, c .laid .long))
 
   same-words : (i : ℕ) → i < linesEnd T C L + 8 → wordAt s i ≡ wordAt t i

@@ -4,7 +4,7 @@
 use mathlib.Core.Path.{_≡_, refl, sym, _∙_, ap, subst, subst₂}
 use mathlib.Core.Bool.{true}
 use mathlib.Core.List.{List}
-use Prim.Native.Nat.{ℕ, zero, suc, _+_, _-_, _*_, _≤_, _<_}
+use Prim.Native.Nat.{ℕ, _+_, _-_, _*_, _≤_, _<_}
 use native.Mathlib.Omega.{arith}
 use lib.ListN.{getD, length, length-drop}
 use Rattle.terms.specs.Term.{Term, size}
@@ -13,11 +13,12 @@ use Rattle.terms.specs.Words.{wordAt}
 use Rattle.terms.specs.Rows.{word, tag, term}
 use Rattle.terms.specs.Table.{limit, GoodRow, TermTable}
 use Rattle.terms.proofs.TermLaws.{downward, same-term}
-use Rattle.rules.specs.Judgment.{Context, wf, typed, equal, sub}
+use Rattle.rules.specs.Judgment.{Context, wf, typed, equal, sub, normal, neutral, steps}
 use Rattle.rules.specs.Subjects.{usesSubject, subjectsOf}
 use Rattle.rules.specs.Contexts.{parentOf, typeOf, context, ContextTable}
 use Rattle.rules.specs.Stated.{stated, Numbered, plainJudgment}
 use Rattle.rules.specs.declared.judgments.LineJudgment.{LineJudgment}
+use Rattle.rules.proofs.SubjectLaws.{by-form}
 use Rattle.rules.proofs.ContextTableLaws.{same-context}
 use Rattle.sheets.specs.Layout.{contextsIn}
 use Rattle.sheets.proofs.WrittenLaws.{word-drop}
@@ -26,11 +27,19 @@ use Rattle.sheets.proofs.WrittenLaws.{word-drop}
 judgment-same : (form : ℕ) {G H : Context} (x y : ℕ → Term) → G ≡ H → ((k : ℕ) → usesSubject form k ≡ true → x k ≡ y k)
     → plainJudgment form G (x 0) (x 1) (x 2) ≡ plainJudgment form H (y 0) (y 1) (y 2)
 unfolding plainJudgment usesSubject
-judgment-same zero x y e s = ap wf e
-judgment-same (suc zero) x y e s = λ i. typed (e i) (s 0 refl i) (s 2 refl i)
-judgment-same (suc (suc zero)) x y e s = λ i. equal (e i) (s 0 refl i) (s 1 refl i) (s 2 refl i)
-judgment-same (suc (suc (suc zero))) x y e s = λ i. sub (e i) (s 0 refl i) (s 1 refl i)
-judgment-same (suc (suc (suc (suc f)))) x y e s = ap wf e
+judgment-same form {G} {H} x y e =
+    by-form
+    (λ form. ((k : ℕ) → usesSubject form k ≡ true → x k ≡ y k)
+    → plainJudgment form G (x 0) (x 1) (x 2) ≡ plainJudgment form H (y 0) (y 1) (y 2))
+    (λ s. ap wf e)
+    (λ s i. typed (e i) (s 0 refl i) (s 2 refl i))
+    (λ s i. equal (e i) (s 0 refl i) (s 1 refl i) (s 2 refl i))
+    (λ s i. sub (e i) (s 0 refl i) (s 1 refl i))
+    (λ s i. normal (e i) (s 0 refl i))
+    (λ s i. neutral (e i) (s 0 refl i))
+    (λ s i. steps (e i) (s 0 refl i) (s 1 refl i))
+    (λ form s. ap wf e)
+    form
 
 module _ (b new : List ℕ) (T C : ℕ) (terms : TermTable b T) (contexts : ContextTable (contextsIn b T) T C)
     (same : (i : ℕ) → i < 5 * T + 2 * C → wordAt b i ≡ wordAt new i) where

@@ -12,11 +12,12 @@ use lib.ListN.{length, getD, take, drop}
 use borrow.Author.Tests.{lt-ltb}
 use Rattle.terms.specs.Words.{wordAt}
 use Rattle.terms.proofs.Tests.{refutes, says-le, says-lt}
+use Rattle.rules.specs.Editions.{IsEdition, rowIn}
 use Rattle.rules.specs.Instance.{Instance}
 use Rattle.rules.specs.RuleTable.{premiseCount}
 use Rattle.rules.specs.Stated.{stated}
 use Rattle.sheets.specs.declared.lines.Line.{Line}
-use Rattle.sheets.specs.Layout.{contextsIn, linesIn, trailerWord, trailerOf, toLines, toContexts, toTerms}
+use Rattle.sheets.specs.Layout.{contextsIn, linesIn, trailerWord, trailerOf, editionOf, toLines, toContexts, toTerms}
 use Rattle.sheets.specs.Lines.{lineWord, lineOf, judgmentOf, premisesOf, citedBy, lineAt, statedAt, LineFollows}
 use Rattle.sheets.specs.Good.{Good}
 use Rattle.sheets.specs.GoodLines.{LineOk, GoodLine}
@@ -202,14 +203,18 @@ module _ (b : List ℕ) (T C L n : ℕ) (g : Good b T C L) (there : n < L) where
       at : linesEnd T C L + i - linesEnd T C L ≡ i
       at = omega arith
 
-  trailer-is : trailerOf new ≡ trailerFor T C (L - 1)
-  unfolding trailerOf trailerFor trailerLoses
+  -- the edition stays
+  pub edition-kept : editionOf new ≡ editionOf b
+  unfolding editionOf trailerLoses
+  edition-kept = omega (arith, trailer-word 3 0 (omega arith) refl)
+
+  trailer-is : trailerOf new ≡ trailerFor (editionOf new) T C (L - 1)
+  unfolding trailerOf trailerFor trailerLoses editionOf
   trailer-is =
-      let t : trailerOf b ≡ trailerFor T C L = g .tables .laid .trailer in
+      let t : trailerOf b ≡ trailerFor (editionOf b) T C L = g .tables .laid .trailer in
       let e0 : trailerWord b 0 ≡ T = ap (λ r. r .terms) t in
       let e1 : trailerWord b 1 ≡ C = ap (λ r. r .contexts) t in
       let e2 : trailerWord b 2 ≡ L = ap (λ r. r .lines) t in
-      let e3 : trailerWord b 3 ≡ 1 = ap (λ r. r .edition) t in
       let e4 : trailerWord b 4 ≡ toTerms T C L = ap (λ r. r .«to_terms») t in
       let e5 : trailerWord b 5 ≡ toContexts C L = ap (λ r. r .«to_contexts») t in
       let e6 : trailerWord b 6 ≡ toLines L = ap (λ r. r .«to_lines») t in
@@ -217,17 +222,32 @@ module _ (b : List ℕ) (T C L n : ℕ) (g : Good b T C L) (there : n < L) where
       let f0 : trailerWord new 0 ≡ T = omega (arith, trailer-word 0 0 (omega arith) refl) in
       let f1 : trailerWord new 1 ≡ C = omega (arith, trailer-word 1 0 (omega arith) refl) in
       let f2 : trailerWord new 2 ≡ L - 1 = omega (arith, trailer-word 2 1 (omega arith) refl) in
-      let f3 : trailerWord new 3 ≡ 1 = omega (arith, trailer-word 3 0 (omega arith) refl) in
       let f4 : trailerWord new 4 ≡ toTerms T C (L - 1) = omega (arith, trailer-word 4 20 (omega arith) refl) in
       let f5 : trailerWord new 5 ≡ toContexts C (L - 1) = omega (arith, trailer-word 5 20 (omega arith) refl) in
       let f6 : trailerWord new 6 ≡ toLines (L - 1) = omega (arith, trailer-word 6 20 (omega arith) refl) in
       let f7 : trailerWord new 7 ≡ 0x4C44 = omega (arith, trailer-word 7 0 (omega arith) refl) in
-      λ i. record { terms = f0 i; contexts = f1 i; lines = f2 i; edition = f3 i; «to_terms» = f4 i; «to_contexts» = f5 i; «to_lines» = f6 i; mark = f7 i }
+      λ i. record {
+        terms = f0 i;
+        contexts = f1 i;
+        lines = f2 i;
+        edition = editionOf new;
+        «to_terms» = f4 i;
+        «to_contexts» = f5 i;
+        «to_lines» = f6 i;
+        mark = f7 i;
+      }
 
   laid : LaidOut new T C (L - 1)
   laid =
       let l = g .tables .laid in
-      record { trailer = trailer-is; fewTerms = l .fewTerms; fewContexts = l .fewContexts; fewLines = omega (arith, l .fewLines); long = new-long }
+      record {
+        trailer = trailer-is;
+        edition = subst IsEdition (sym edition-kept) (l .edition);
+        fewTerms = l .fewTerms;
+        fewContexts = l .fewContexts;
+        fewLines = omega (arith, l .fewLines);
+        long = new-long;
+      }
 
   -- the lines
   line-word : (m j : ℕ) → m < L - 1 → j < 10 → lineWord (linesIn new T C) m j ≡ lowered n j (lineWord (linesIn b T C) (up n m) j)
@@ -259,6 +279,7 @@ module _ (b : List ℕ) (T C L n : ℕ) (g : Good b T C L) (there : n < L) where
         tables = head-word;
         before = λ k h. moved k (omega arith) k (up-before n k h);
         behind = λ k h l. moved k (omega arith) (suc k) (up-behind n k h);
+        edition = edition-kept;
         laid = laid;
       }
     where
@@ -272,7 +293,7 @@ module _ (b : List ℕ) (T C L n : ℕ) (g : Good b T C L) (there : n < L) where
   line-new m h =
       λ i. record {
         form = line-field m 0 h (omega arith) i;
-        rule = line-field m 1 h (omega arith) i;
+        rule = rowIn (edition-kept i) (line-field m 1 h (omega arith) i);
         context = line-field m 2 h (omega arith) i;
         s1 = line-field m 3 h (omega arith) i;
         s2 = line-field m 4 h (omega arith) i;
@@ -296,7 +317,7 @@ module _ (b : List ℕ) (T C L n : ℕ) (g : Good b T C L) (there : n < L) where
       ap (λ l. stated new (contextsIn new T) (judgmentOf l)) (line-new m h)
       ∙ sym (stated-same b new T C (g .tables .terms) (g .tables .contexts) same-words (judgmentOf (lineAt b T C (up n m))) (g .lines (up n m) (up-within m h) .ok .numbers))
 
-  module _ (unused : Unused (linesIn b T C) L n) where
+  module _ (unused : Unused (editionOf b) (linesIn b T C) L n) where
     not-used : (m : ℕ) → m < L - 1 → Uses (lineAt b T C (up n m)) n → ⊥
     unfolding lineAt
     not-used m h u = at (decLt m n)

@@ -1,6 +1,6 @@
 -- What the functions of withdrawal answer, from what their callees answer; what their callees ask.
 -- Assumes nothing.
-use mathlib.Core.Path.{_≡_, refl, sym, _∙_, ap, subst, subst₂}
+use mathlib.Core.Path.{_≡_, refl, sym, _∙_, ap, subst₂}
 use mathlib.Core.Bool.{_&&_, _||_}
 use mathlib.Core.List.{List, [], _∷_, _++_}
 use Prim.Native.Nat.{ℕ, suc, _+_, _-_, _*_, _/_, _%_, _≤_, _<_}
@@ -19,7 +19,7 @@ use Rattle.sheets.specs.declared.admission.Admission.{Admission}
 use Rattle.sheets.specs.declared.admission.Admission.the-variants.{Accepted, Refused as notAdmitted}
 use Rattle.sheets.specs.declared.withdrawal.Withdrawal.{Withdrawal}
 use Rattle.sheets.specs.declared.withdrawal.Withdrawal.the-variants.{Written, Refused}
-use Rattle.sheets.specs.Layout.{linesIn}
+use Rattle.sheets.specs.Layout.{editionOf, linesIn}
 use Rattle.sheets.specs.Lines.{lineOf, lineAt}
 use Rattle.sheets.specs.Admission.{admitOf}
 use Rattle.sheets.specs.Good.{Good}
@@ -39,12 +39,12 @@ unfolding uses
 uses-told l n c e = ap (λ k. (ltb 0 k && eqb (l .p0) n) || (ltb 1 k && eqb (l .p1) n) || (ltb 2 k && eqb (l .p2) n) || (ltb 3 k && eqb (l .p3) n)) e
 
 -- `first_use`: the lines behind line n are ahead
-pub uses-ahead : (lines : List ℕ) (count n : ℕ) → n < count
-    → Looking (λ k. uses (lineOf lines k) n) (λ k. k) count count (firstUse lines count n) (n + 1)
+pub uses-ahead : (edition : ℕ) (lines : List ℕ) (count n : ℕ) → n < count
+    → Looking (λ k. uses (lineOf edition lines k) n) (λ k. k) count count (firstUse edition lines count n) (n + 1)
 unfolding firstUse
-uses-ahead lines count n h =
+uses-ahead edition lines count n h =
     looking-start (count - suc n) (omega arith)
-    (ap (λ m. firstAt (λ k. uses (lineOf lines k) n) (λ k. k) count (count - suc n) m) (add-one n))
+    (ap (λ m. firstAt (λ k. uses (lineOf edition lines k) n) (λ k. k) count (count - suc n) m) (add-one n))
 
 -- `new_word`
 module _ (b : List ℕ) (start end n i : ℕ) where
@@ -111,7 +111,7 @@ module _ (f : ℕ → ℕ) (count : ℕ) (before : List ℕ) where
             filled = two ∙ sym three;
           }
 
--- `withdraw_line`
+-- `withdraw_line`, which reads the lines in the sheet's edition
 module _ (b : List ℕ) (T C L n : ℕ) (g : Good b T C L) where
   -- the part of the sheet that begins with the lines
   abbrev part : List ℕ
@@ -121,12 +121,13 @@ module _ (b : List ℕ) (T C L n : ℕ) (g : Good b T C L) where
   unfolding linesIn
   part-lines = part-to-end b (10 * T + 4 * C)
 
-  pub known-lines : n < L → (20 * L ≤ length part) × (n < L) × KnownRules part L
+  pub known-lines : {edition : ℕ} → edition ≡ editionOf b → n < L
+      → (20 * L ≤ length part) × (n < L) × KnownRules edition part L
   unfolding lineAt
-  known-lines h = (
+  known-lines own h = (
     omega (arith, g .tables .laid .long, length-drop (10 * T + 4 * C) b, ap length (part-to-end b (10 * T + 4 * C))),
     h,
-    subst (λ l. KnownRules l L) (sym part-lines) (λ k l. g .lines k l .ok .rule),
+    subst₂ (λ e l. KnownRules e l L) (sym own) (sym part-lines) (λ k l. g .lines k l .ok .rule),
   )
 
   module _ (before : List ℕ) where
@@ -138,9 +139,11 @@ module _ (b : List ℕ) (T C L n : ℕ) (g : Good b T C L) where
     answer-11 h = let e = line-missing b T C L n (length before) h in (sym e, ap (outFrom b n before) (sym e))
 
     -- p is what the search answers
-    module _ (h : n < L) (p : ℕ) (e : p ≡ firstUse part L n) where
+    module _ (h : n < L) {edition : ℕ} (own : edition ≡ editionOf b) (p : ℕ) (e : p ≡ firstUse edition part L n) where
       searched : answer ≡ afterUse T C L (length before) p
-      searched = line-there b T C L n (length before) h ∙ ap (λ l. afterUse T C L (length before) (firstUse l L n)) (sym part-lines) ∙ ap (afterUse T C L (length before)) (sym e)
+      searched =
+          line-there b T C L n (length before) h
+          ∙ ap (afterUse T C L (length before)) (sym (e ∙ (λ i. firstUse (own i) (part-lines i) L n)))
 
       pub answer-12 : p < L → (Refused 12 p ≡ answer) × (before ≡ outFrom b n before answer)
       unfolding outFrom

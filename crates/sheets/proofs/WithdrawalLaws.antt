@@ -22,7 +22,7 @@ use Rattle.sheets.specs.declared.admission.Admission.{Admission}
 use Rattle.sheets.specs.declared.admission.Admission.the-variants.{Accepted, Refused as notAdmitted}
 use Rattle.sheets.specs.declared.withdrawal.Withdrawal.{Withdrawal}
 use Rattle.sheets.specs.declared.withdrawal.Withdrawal.the-variants.{Written, Refused}
-use Rattle.sheets.specs.Layout.{linesIn}
+use Rattle.sheets.specs.Layout.{editionOf, linesIn}
 use Rattle.sheets.specs.Lines.{lineOf, premisesOf}
 use Rattle.sheets.specs.Admission.{admitOf}
 use Rattle.sheets.specs.Good.{Good}
@@ -62,39 +62,41 @@ uses-says l n =
     says : (j p : ℕ) → Decides (at j p) ((j < premiseCount (l .rule)) × (p ≡ n))
     says j p = says-lt j (premiseCount (l .rule)) & says-eq p n
 
-module _ (lines : List ℕ) (n L : ℕ) (h : n < L) where
+module _ (edition : ℕ) (lines : List ℕ) (n L : ℕ) (h : n < L) where
   -- what the search for a use answers
   abbrev First : ℕ → Type 0
-  First = FirstOf (λ k. Uses (lineOf lines k) n) (λ k. k) L (suc n) L
+  First = FirstOf (λ k. Uses (lineOf edition lines k) n) (λ k. k) L (suc n) L
 
-  first-means : (p : ℕ) → (firstUse lines L n ≡ p) ↔ First p
+  first-means : (p : ℕ) → (firstUse edition lines L n ≡ p) ↔ First p
   unfolding firstUse
   first-means =
-      search-means (first-tells (λ k. Uses (lineOf lines k) n) (λ k. k) (λ k. uses-says (lineOf lines k) n))
+      search-means
+      (first-tells (λ k. Uses (lineOf edition lines k) n) (λ k. k) (λ k. uses-says (lineOf edition lines k) n))
       L (L - suc n) (suc n) L (omega arith)
 
-  first : First (firstUse lines L n)
-  first = first-means (firstUse lines L n) .0 refl
+  first : First (firstUse edition lines L n)
+  first = first-means (firstUse edition lines L n) .0 refl
 
-  pub use-lowest : firstUse lines L n < L → LowestUse lines L n (firstUse lines L n)
+  pub use-lowest : firstUse edition lines L n < L → LowestUse edition lines L n (firstUse edition lines L n)
   use-lowest l = from first
     where
-      from : First (firstUse lines L n) → LowestUse lines L n (firstUse lines L n)
+      from : First (firstUse edition lines L n) → LowestUse edition lines L n (firstUse edition lines L n)
       from (stops p low high before x) =
-          subst (LowestUse lines L n) (sym (x .1)) (record { later = low; within = high; uses = x .0; lowest = before })
+          subst (LowestUse edition lines L n) (sym (x .1))
+          (record { later = low; within = high; uses = x .0; lowest = before })
       from (passes all e) = absurd (omega arith)
 
-  pub use-none : L ≤ firstUse lines L n → Unused lines L n
+  pub use-none : L ≤ firstUse edition lines L n → Unused edition lines L n
   use-none l = from first
     where
-      from : First (firstUse lines L n) → Unused lines L n
+      from : First (firstUse edition lines L n) → Unused edition lines L n
       from (stops p low high before x) = absurd (omega (arith, x .1))
       from (passes all e) = all
 
-  pub lowest-use : (p : ℕ) → LowestUse lines L n p → firstUse lines L n ≡ p
+  pub lowest-use : (p : ℕ) → LowestUse edition lines L n p → firstUse edition lines L n ≡ p
   lowest-use p u = first-means p .1 (stops p (u .later) (u .within) (u .lowest) (u .uses, refl))
 
-  pub none-use : Unused lines L n → L ≤ firstUse lines L n
+  pub none-use : Unused edition lines L n → L ≤ firstUse edition lines L n
   none-use f = omega (arith, first-means L .1 (passes f refl))
 
 -- the ways through 11, 12 and 13
@@ -103,7 +105,8 @@ module _ (bytes : List ℕ) (T C L n room : ℕ) where
   unfolding afterLine
   line-missing h = rw (at-least n L h, afterLine)
 
-  pub line-there : n < L → afterLine bytes T C L n room ≡ afterUse T C L room (firstUse (linesIn bytes T C) L n)
+  pub line-there : n < L
+      → afterLine bytes T C L n room ≡ afterUse T C L room (firstUse (editionOf bytes) (linesIn bytes T C) L n)
   unfolding afterLine
   line-there h = rw (lt-ltb n L h, afterLine)
 
@@ -126,14 +129,18 @@ module _ (bytes : List ℕ) (T C L n room : ℕ) where
       Means = AdmittedWithdrawalMeans bytes T C L n room
 
       place : ℕ
-      place = firstUse (linesIn bytes T C) L n
+      place = firstUse (editionOf bytes) (linesIn bytes T C) L n
+
+      none : n < L → L ≤ place → Unused (editionOf bytes) (linesIn bytes T C) L n
+      none = use-none (editionOf bytes) (linesIn bytes T C) n L
 
       on-room : n < L → L ≤ place → Dec (room < newLength T C L) → Means (afterUse T C L room place)
-      on-room h l (yes k) = subst Means (sym (room-refused place l k)) (short h (use-none (linesIn bytes T C) n L h l) k)
-      on-room h l (no k) = subst Means (sym (room-enough place l (omega arith))) (written h (use-none (linesIn bytes T C) n L h l) (omega arith))
+      on-room h l (yes k) = subst Means (sym (room-refused place l k)) (short h (none h l) k)
+      on-room h l (no k) = subst Means (sym (room-enough place l (omega arith))) (written h (none h l) (omega arith))
 
       on-use : n < L → Dec (place < L) → Means (afterUse T C L room place)
-      on-use h (yes l) = subst Means (sym (use-refused place l)) (used h (use-lowest (linesIn bytes T C) n L h l))
+      on-use h (yes l) =
+          subst Means (sym (use-refused place l)) (used h (use-lowest (editionOf bytes) (linesIn bytes T C) n L h l))
       on-use h (no l) = on-room h (omega arith) (decLt room (newLength T C L))
 
       at : Dec (n < L) → Means (afterLine bytes T C L n room)
@@ -143,10 +150,10 @@ module _ (bytes : List ℕ) (T C L n room : ℕ) where
   back : {a : Withdrawal} → AdmittedWithdrawalMeans bytes T C L n room a → afterLine bytes T C L n room ≡ a
   back (missing h) = line-missing h
   back (used {p} h u) =
-      let e = lowest-use (linesIn bytes T C) n L h p u in
+      let e = lowest-use (editionOf bytes) (linesIn bytes T C) n L h p u in
       line-there h ∙ ap (afterUse T C L room) e ∙ use-refused p (u .within)
-  back (short h u k) = line-there h ∙ room-refused _ (none-use (linesIn bytes T C) n L h u) k
-  back (written h u k) = line-there h ∙ room-enough _ (none-use (linesIn bytes T C) n L h u) k
+  back (short h u k) = line-there h ∙ room-refused _ (none-use (editionOf bytes) (linesIn bytes T C) n L h u) k
+  back (written h u k) = line-there h ∙ room-enough _ (none-use (editionOf bytes) (linesIn bytes T C) n L h u) k
 
 module _ (bytes : List ℕ) (n work room : ℕ) where
   -- a refusal of admission is handed on
@@ -158,6 +165,14 @@ module _ (bytes : List ℕ) (n work room : ℕ) where
     pub withdrawn-by : withdrawOf bytes n work room ≡ afterLine bytes T C L n room
     unfolding withdrawOf withdrawAfter
     withdrawn-by = ap (withdrawAfter bytes n room) accepted
+
+    -- no later line uses line n
+    abbrev Free : Type 0
+    Free = Unused (editionOf bytes) (linesIn bytes T C) L n
+
+    -- line p is the lowest later line that uses it
+    abbrev LowestAt : ℕ → Type 0
+    LowestAt p = LowestUse (editionOf bytes) (linesIn bytes T C) L n p
 
     -- on an accepted sheet an answer is given exactly if it means what it should
     pub withdrawn-is : (a : Withdrawal) → (withdrawOf bytes n work room ≡ a) ↔ AdmittedWithdrawalMeans bytes T C L n room a
@@ -173,22 +188,25 @@ module _ (bytes : List ℕ) (n work room : ℕ) where
         from : {p : ℕ} → AdmittedWithdrawalMeans bytes T C L n room (Refused 11 p) → L ≤ n
         from (missing h) = h
 
-    pub used-is : (p : ℕ) → (withdrawOf bytes n work room ≡ Refused 12 p) ↔ ((n < L) × LowestUse (linesIn bytes T C) L n p)
+    pub used-is : (p : ℕ) → (withdrawOf bytes n work room ≡ Refused 12 p) ↔ ((n < L) × LowestAt p)
     used-is p = (λ e. from (withdrawn-is (Refused 12 p) .0 e), λ h. withdrawn-is (Refused 12 p) .1 (used (h .0) (h .1)))
       where
-        from : AdmittedWithdrawalMeans bytes T C L n room (Refused 12 p) → (n < L) × LowestUse (linesIn bytes T C) L n p
+        from : AdmittedWithdrawalMeans bytes T C L n room (Refused 12 p) → (n < L) × LowestAt p
         from (used h u) = (h, u)
 
-    pub short-is : (withdrawOf bytes n work room ≡ Refused 13 0) ↔ ((n < L) × Unused (linesIn bytes T C) L n × (room < newLength T C L))
+    pub short-is : (withdrawOf bytes n work room ≡ Refused 13 0) ↔ ((n < L) × Free × (room < newLength T C L))
     short-is = (λ e. from (withdrawn-is (Refused 13 0) .0 e), λ h. withdrawn-is (Refused 13 0) .1 (short (h .0) (h .1) (h .2)))
       where
-        from : {p : ℕ} → AdmittedWithdrawalMeans bytes T C L n room (Refused 13 p) → (n < L) × Unused (linesIn bytes T C) L n × (room < newLength T C L)
+        from : {p : ℕ} → AdmittedWithdrawalMeans bytes T C L n room (Refused 13 p)
+            → (n < L) × Free × (room < newLength T C L)
         from (short h u k) = (h, u, k)
 
-    pub written-is : (withdrawOf bytes n work room ≡ Written (newLength T C L)) ↔ ((n < L) × Unused (linesIn bytes T C) L n × (newLength T C L ≤ room))
+    pub written-is : (withdrawOf bytes n work room ≡ Written (newLength T C L))
+        ↔ ((n < L) × Free × (newLength T C L ≤ room))
     written-is = (λ e. from (withdrawn-is _ .0 e), λ h. withdrawn-is _ .1 (written (h .0) (h .1) (h .2)))
       where
-        from : {l : ℕ} → AdmittedWithdrawalMeans bytes T C L n room (Written l) → (n < L) × Unused (linesIn bytes T C) L n × (newLength T C L ≤ room)
+        from : {l : ℕ} → AdmittedWithdrawalMeans bytes T C L n room (Written l)
+            → (n < L) × Free × (newLength T C L ≤ room)
         from (written h u k) = (h, u, k)
 
 -- demand 3 (c)

@@ -12,7 +12,7 @@ use Rattle.sheets.specs.declared.admission.Admission.the-variants.{Accep
 use Rattle.sheets.specs.declared.finding.Wanted.{Wanted}
 use Rattle.sheets.specs.declared.finding.Found.{Found}
 use Rattle.sheets.specs.declared.finding.Found.the-variants.{Line, Refused}
-use Rattle.sheets.specs.Layout.{linesIn}
+use Rattle.sheets.specs.Layout.{editionOf, linesIn}
 use Rattle.sheets.specs.Lines.{lineOf, judgmentOf}
 use Rattle.sheets.specs.Admission.{admitOf}
 
@@ -20,14 +20,16 @@ use Rattle.sheets.specs.Admission.{admitOf}
 unfoldable pub hasNumbers : LineJudgment → Wanted → Bool
 hasNumbers j w = eqb (j .form) (w .form) && eqb (j .context) (w .context) && eqb (j .s1) (w .s1) && eqb (j .s2) (w .s2) && eqb (j .s3) (w .s3)
 
--- the lowest of the first count lines that has the numbers; number 14 if none has
-unfoldable pub searchLines : List ℕ → ℕ → Wanted → Found
-searchLines lines count w = firstAt (λ n. hasNumbers (judgmentOf (lineOf lines n)) w) Line (Refused 14 0) count 0
+-- the lowest of the first count lines of a sheet of this edition that has the numbers; number 14 if none has
+unfoldable pub searchLines : ℕ → List ℕ → ℕ → Wanted → Found
+searchLines edition lines count w =
+    firstAt (λ n. hasNumbers (judgmentOf (lineOf edition lines n)) w) Line (Refused 14 0) count 0
 
 -- "Withdrawal and finding admit the sheet first and return its refusal"
 unfoldable pub findAfter : List ℕ → Wanted → Admission → Found
 findAfter bytes w (notAdmitted number place) = Refused number place
-findAfter bytes w (Accepted terms contexts lines) = searchLines (linesIn bytes terms contexts) lines w
+findAfter bytes w (Accepted terms contexts lines) =
+    searchLines (editionOf bytes) (linesIn bytes terms contexts) lines w
 
 unfoldable pub findOf : List ℕ → ℕ → Wanted → Found
 findOf bytes work w = findAfter bytes w (admitOf bytes work)
@@ -40,12 +42,12 @@ pub record HasNumbers (j : LineJudgment) (w : Wanted) : Type 0 where
   pub s2 : j .s2 ≡ w .s2
   pub s3 : j .s3 ≡ w .s3
 
--- line n of the lines has them
-abbrev pub LineHas : List ℕ → Wanted → ℕ → Type 0
-LineHas lines w n = HasNumbers (judgmentOf (lineOf lines n)) w
+-- line n of the lines of a sheet of this edition has them
+abbrev pub LineHas : ℕ → List ℕ → Wanted → ℕ → Type 0
+LineHas edition lines w n = HasNumbers (judgmentOf (lineOf edition lines n)) w
 
 -- line i is the lowest of the first count lines that has them
-pub record LowestLine (lines : List ℕ) (count : ℕ) (w : Wanted) (i : ℕ) : Type 0 where
+pub record LowestLine (edition : ℕ) (lines : List ℕ) (count : ℕ) (w : Wanted) (i : ℕ) : Type 0 where
   pub within : i < count
-  pub has : LineHas lines w i
-  pub lowest : (n : ℕ) → n < i → LineHas lines w n → ⊥
+  pub has : LineHas edition lines w i
+  pub lowest : (n : ℕ) → n < i → LineHas edition lines w n → ⊥

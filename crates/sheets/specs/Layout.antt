@@ -6,6 +6,7 @@ use Prim.Native.Nat.{ℕ, _+_, _-_, _*_}
 use lib.Dec.{leb, eqb}
 use lib.ListN.{length, drop}
 use Rattle.terms.specs.Words.{wordAt}
+use Rattle.rules.specs.Editions.{editionKnown}
 use Rattle.sheets.specs.declared.layout.Trailer.{Trailer}
 use Rattle.sheets.specs.declared.layout.Layout.{Layout}
 use Rattle.sheets.specs.declared.layout.Layout.the-variants.{Counted, Wrong}
@@ -36,6 +37,11 @@ trailerOf bytes =
       mark = trailerWord bytes 7;
     }
 
+-- the edition that a sheet names, by which it is judged
+unfoldable pub editionOf : List ℕ → ℕ
+unfolding trailerOf
+editionOf bytes = trailerOf bytes .edition
+
 -- the distances back from the trailer's first byte
 abbrev pub toLines : ℕ → ℕ
 toLines lines = 20 * lines
@@ -50,9 +56,9 @@ toTerms terms contexts lines = 10 * terms + 4 * contexts + 20 * lines
 unfoldable pub lengthFits : ℕ → Bool
 lengthFits n = leb 16 n && leb n 52240
 
--- number 2: the mark, and an edition that is defined
+-- "Number 2 is now for a wrong mark or an edition not yet defined" (document 02, A5)
 unfoldable pub markFits : Trailer → Bool
-markFits t = eqb (t .mark) 0x4C44 && eqb (t .edition) 1
+markFits t = eqb (t .mark) 0x4C44 && editionKnown (t .edition)
 
 -- number 3: the counts keep their limits
 unfoldable pub limitsFit : Trailer → Bool

@@ -8,26 +8,29 @@ use lib.ListN.{take}
 use Rattle.terms.specs.Words.{wordAt}
 use Rattle.terms.specs.Search.{Step, ends, goes, searchPlaces}
 use Rattle.rules.specs.Judgment.{Judgment}
+use Rattle.rules.specs.Editions.{rowIn}
 use Rattle.rules.specs.RuleTable.{ruleKnown, formOf, premiseCount}
 use Rattle.rules.specs.Subjects.{usesSubject}
 use Rattle.rules.specs.Instance.{Instance}
 use Rattle.rules.specs.Decision.{instance?}
-use Rattle.rules.specs.Stated.{stated}
+use Rattle.rules.specs.Stated.{lastContext, stated}
 use Rattle.rules.specs.declared.judgments.LineJudgment.{LineJudgment}
 use Rattle.sheets.specs.declared.lines.Line.{Line}
 use Rattle.sheets.specs.declared.lines.LinesAnswer.{LinesAnswer}
 use Rattle.sheets.specs.declared.lines.LinesAnswer.the-variants.{NoFault, Faulty}
-use Rattle.sheets.specs.Layout.{contextsIn, linesIn}
+use Rattle.sheets.specs.Layout.{editionOf, contextsIn, linesIn}
 
 -- word j of line n, where the bytes begin with line 0
 unfoldable pub lineWord : List ℕ → ℕ → ℕ → ℕ
 lineWord lines n j = wordAt lines (10 * n + j)
 
-unfoldable pub lineOf : List ℕ → ℕ → Line
-lineOf lines n =
+-- Line n of a sheet of this edition. Its rule is the row of the rule table by which the edition judges the rule word, 0
+-- where it admits no such rule: "An edition 1 sheet with a rule above 43 still gets 9" (document 02, A5).
+unfoldable pub lineOf : ℕ → List ℕ → ℕ → Line
+lineOf edition lines n =
     record {
       form = lineWord lines n 0;
-      rule = lineWord lines n 1;
+      rule = rowIn edition (lineWord lines n 1);
       context = lineWord lines n 2;
       s1 = lineWord lines n 3;
       s2 = lineWord lines n 4;
@@ -69,20 +72,23 @@ premisesFit l count n =
     ltb (l .p0) (below (ltb 0 count) n) && ltb (l .p1) (below (ltb 1 count) n) && ltb (l .p2) (below (ltb 2 count) n)
     && ltb (l .p3) (below (ltb 3 count) n)
 
--- number 9, rule and form: a rule that is there, and its form
+-- number 9, rule and form: a rule that the edition admits, and its form
 unfoldable pub ruleFits : Line → Bool
 ruleFits l = ruleKnown (l .rule) && eqb (judgmentOf l .form) (formOf (l .rule))
 
--- number 9, the numbers of line n, over the given numbers of terms and of contexts
+-- Number 9, the numbers of line n, over the given numbers of terms and of contexts. Lines of forms 4 to 6 "stand in
+-- context 0; another gives 9" (document 02, A5).
 unfoldable pub numbersFit : Line → ℕ → ℕ → ℕ → Bool
-numbersFit l n terms contexts = leb (l .context) contexts && subjectsFit (judgmentOf l) terms && premisesFit l (premiseCount (l .rule)) n
+numbersFit l n terms contexts =
+    leb (l .context) (lastContext (judgmentOf l .form) contexts) && subjectsFit (judgmentOf l) terms
+    && premisesFit l (premiseCount (l .rule)) n
 
 unfoldable pub lineFits : Line → ℕ → ℕ → ℕ → Bool
 lineFits l n terms contexts = ruleFits l && numbersFit l n terms contexts
 
 module _ (bytes : List ℕ) (terms contexts : ℕ) where
   unfoldable pub lineAt : ℕ → Line
-  lineAt n = lineOf (linesIn bytes terms contexts) n
+  lineAt n = lineOf (editionOf bytes) (linesIn bytes terms contexts) n
 
   -- a line's judgment, read as plain terms ("Derivations that fit")
   unfoldable pub statedAt : ℕ → Judgment

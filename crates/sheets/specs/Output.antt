@@ -8,7 +8,7 @@ use lib.ListN.{length, getD, take}
 use Rattle.terms.specs.Words.{wordAt}
 use Rattle.sheets.specs.declared.withdrawal.Withdrawal.{Withdrawal}
 use Rattle.sheets.specs.declared.withdrawal.Withdrawal.the-variants.{Written, Refused}
-use Rattle.sheets.specs.Layout.{linesIn, trailerOf}
+use Rattle.sheets.specs.Layout.{linesIn, trailerOf, editionOf}
 use Rattle.sheets.specs.Lines.{lineWord}
 use Rattle.sheets.specs.GoodLayout.{LaidOut}
 use Rattle.sheets.specs.Withdrawal.{lowerPremise}
@@ -18,12 +18,13 @@ pub record MovedLine (n : ℕ) (old new : List ℕ) (m k : ℕ) : Type 0 where
   pub fields : (j : ℕ) → j < 6 → lineWord new k j ≡ lineWord old m j
   pub premises : (j : ℕ) → 6 ≤ j → j < 10 → lineWord new k j ≡ lowerPremise n (lineWord old m j)
 
--- the new sheet is the old one, of T terms, C contexts and L lines, without line n: its trailer and its length are
--- those of one line fewer
+-- the new sheet is the old one, of T terms, C contexts and L lines, without line n: its edition is the old one's, its
+-- trailer and its length are those of one line fewer
 pub record LineAway (old new : List ℕ) (T C L n : ℕ) : Type 0 where
   pub tables : (i : ℕ) → i < 5 * T + 2 * C → wordAt new i ≡ wordAt old i
   pub before : (k : ℕ) → k < n → MovedLine n (linesIn old T C) (linesIn new T C) k k
   pub behind : (k : ℕ) → n ≤ k → suc k < L → MovedLine n (linesIn old T C) (linesIn new T C) (suc k) k
+  pub edition : editionOf new ≡ editionOf old
   pub laid : LaidOut new T C (L - 1)
 
 -- the output up to the new length is the new sheet; the counts of the old one are those of its trailer

@@ -14,7 +14,7 @@ use Rattle.sheets.specs.declared.admission.Admission.{Admission}
 use Rattle.sheets.specs.declared.admission.Admission.the-variants.{Accepted, Refused as notAdmitted}
 use Rattle.sheets.specs.declared.withdrawal.Withdrawal.{Withdrawal}
 use Rattle.sheets.specs.declared.withdrawal.Withdrawal.the-variants.{Written, Refused}
-use Rattle.sheets.specs.Layout.{linesIn, trailerOf, toTerms}
+use Rattle.sheets.specs.Layout.{editionOf, linesIn, trailerOf, toTerms}
 use Rattle.sheets.specs.Lines.{lineOf, premisesOf}
 use Rattle.sheets.specs.Admission.{admitOf}
 use Rattle.terms.specs.Lists.{listed, without}
@@ -30,13 +30,13 @@ uses l n =
 abbrev pub Uses : Line → ℕ → Type 0
 Uses l n = (j : ℕ) × (j < 4) × (j < premiseCount (l .rule)) × (getD (premisesOf l) j 0 ≡ n)
 
--- the rules of the first count lines are there
-abbrev pub KnownRules : List ℕ → ℕ → Type 0
-KnownRules lines count = (k : ℕ) → k < count → IsRule (lineOf lines k .rule)
+-- the rules of the first count lines of a sheet of this edition are there
+abbrev pub KnownRules : ℕ → List ℕ → ℕ → Type 0
+KnownRules edition lines count = (k : ℕ) → k < count → IsRule (lineOf edition lines k .rule)
 
 -- the lowest line behind line n, of the first count, that uses it; count if none does
-unfoldable pub firstUse : List ℕ → ℕ → ℕ → ℕ
-firstUse lines count n = firstAt (λ k. uses (lineOf lines k) n) (λ k. k) count (count - suc n) (suc n)
+unfoldable pub firstUse : ℕ → List ℕ → ℕ → ℕ → ℕ
+firstUse edition lines count n = firstAt (λ k. uses (lineOf edition lines k) n) (λ k. k) count (count - suc n) (suc n)
 
 -- the length of a sheet of T terms, C contexts and L lines without one of the lines
 unfoldable pub newLength : ℕ → ℕ → ℕ → ℕ
@@ -52,7 +52,11 @@ afterUse T C L room place =
 
 -- number 11, then 12 and 13
 unfoldable pub afterLine : List ℕ → ℕ → ℕ → ℕ → ℕ → ℕ → Withdrawal
-afterLine bytes T C L n room = elim (ltb n L) [ false ↦ Refused 11 n | true ↦ afterUse T C L room (firstUse (linesIn bytes T C) L n) ]
+afterLine bytes T C L n room =
+    elim (ltb n L) [
+      | false ↦ Refused 11 n
+      | true ↦ afterUse T C L room (firstUse (editionOf bytes) (linesIn bytes T C) L n)
+    ]
 
 -- "Withdrawal and finding admit the sheet first and return its refusal, then 11, 12, 13"
 unfoldable pub withdrawAfter : List ℕ → ℕ → ℕ → Admission → Withdrawal
@@ -116,22 +120,25 @@ unfoldable pub outAfter : List ℕ → ℕ → ℕ → List ℕ → List ℕ
 outAfter bytes n work before = outFrom bytes n before (withdrawOf bytes n work (length before))
 
 -- line p is the lowest line behind line n, of the first L, that has n among its used premises
-pub record LowestUse (lines : List ℕ) (L n p : ℕ) : Type 0 where
+pub record LowestUse (edition : ℕ) (lines : List ℕ) (L n p : ℕ) : Type 0 where
   pub later : n < p
   pub within : p < L
-  pub uses : Uses (lineOf lines p) n
-  pub lowest : (k : ℕ) → n < k → k < p → Uses (lineOf lines k) n → ⊥
+  pub uses : Uses (lineOf edition lines p) n
+  pub lowest : (k : ℕ) → n < k → k < p → Uses (lineOf edition lines k) n → ⊥
 
 -- no line behind line n, of the first L, has it among its used premises
-abbrev pub Unused : List ℕ → ℕ → ℕ → Type 0
-Unused lines L n = (k : ℕ) → n < k → k < L → Uses (lineOf lines k) n → ⊥
+abbrev pub Unused : ℕ → List ℕ → ℕ → ℕ → Type 0
+Unused edition lines L n = (k : ℕ) → n < k → k < L → Uses (lineOf edition lines k) n → ⊥
 
 -- what each answer of withdrawal means for an accepted sheet with these counts; there is no other
 pub data AdmittedWithdrawalMeans (bytes : List ℕ) (T C L n room : ℕ) : Withdrawal → Type 0 where
   missing : L ≤ n → AdmittedWithdrawalMeans bytes T C L n room (Refused 11 n)
-  used : {p : ℕ} → n < L → LowestUse (linesIn bytes T C) L n p → AdmittedWithdrawalMeans bytes T C L n room (Refused 12 p)
-  short : n < L → Unused (linesIn bytes T C) L n → room < newLength T C L → AdmittedWithdrawalMeans bytes T C L n room (Refused 13 0)
-  written : n < L → Unused (linesIn bytes T C) L n → newLength T C L ≤ room → AdmittedWithdrawalMeans bytes T C L n room (Written (newLength T C L))
+  used : {p : ℕ} → n < L → LowestUse (editionOf bytes) (linesIn bytes T C) L n p
+      → AdmittedWithdrawalMeans bytes T C L n room (Refused 12 p)
+  short : n < L → Unused (editionOf bytes) (linesIn bytes T C) L n → room < newLength T C L
+      → AdmittedWithdrawalMeans bytes T C L n room (Refused 13 0)
+  written : n < L → Unused (editionOf bytes) (linesIn bytes T C) L n → newLength T C L ≤ room
+      → AdmittedWithdrawalMeans bytes T C L n room (Written (newLength T C L))
 
 -- Demand 3 (c), of an answer and the output afterwards: if a length is answered, the old sheet and the new one, the
 -- output up to that length, are accepted, and the new one states the old judgments in order, that one missing.

@@ -1,6 +1,7 @@
 // Finding the line that states a judgment.
 use crate::admission::Admission;
 use crate::admission::admit;
+use crate::layout::edition_of;
 use crate::lines::judgment_of;
 use crate::lines::read_line;
 use rules::judgments::LineJudgment;
@@ -43,13 +44,13 @@ fn has_numbers(j: LineJudgment, w: Wanted) -> bool
 }
 
 // The lowest of the first `count` lines that has these five numbers.
-fn search_lines(lines: &[u8], count: usize, wanted: Wanted) -> Found
+fn search_lines(edition: usize, lines: &[u8], count: usize, wanted: Wanted) -> Found
     requires { ⌜ 20 * count ≤ length (now lines) ⌝ }
-    ensures { λ r. ⌜ r ≡ searchLines (now (lines .entry)) count wanted ⌝ }
+    ensures { λ r. ⌜ r ≡ searchLines edition (now (lines .entry)) count wanted ⌝ }
 {
     let mut n = 0;
     while n < count {
-        if has_numbers(judgment_of(read_line(lines, n)), wanted) {
+        if has_numbers(judgment_of(read_line(edition, lines, n)), wanted) {
             return Found::Line(n);
         }
         n += 1;
@@ -73,7 +74,7 @@ pub fn find(sheet: &[u8], work: &mut [u32], wanted: Wanted) -> Found
             lines,
         } => {
             let start = 10 * terms + 4 * contexts;
-            search_lines(&sheet[start..], lines, wanted)
+            search_lines(edition_of(sheet), &sheet[start..], lines, wanted)
         }
     }
 }

@@ -1,10 +1,11 @@
 // The trailer, and what it says of the tables.
+use rules::editions::is_edition;
 use terms::words::word_at;
 ghost use mathlib.Core.Path.{_≡_};
 ghost use mathlib.Core.Bool.{true};
 ghost use Prim.Native.Nat.{_≤_};
 ghost use lib.ListN.{length};
-ghost use Rattle.sheets.specs.Layout.{trailerOf, markFits, limitsFit, distancesFit, countsFit, trailerAnswer, layoutOf};
+ghost use Rattle.sheets.specs.Layout.{trailerOf, editionOf, markFits, limitsFit, distancesFit, countsFit, trailerAnswer, layoutOf};
 
 // The eight words of a trailer. The three distances go back from its first byte to the terms, the contexts and the
 // lines.
@@ -50,11 +51,20 @@ fn read_trailer(sheet: &[u8]) -> Trailer
     }
 }
 
+// The edition by which a sheet is judged.
+pub fn edition_of(sheet: &[u8]) -> usize
+    requires { ⌜ 16 ≤ length (now sheet) ⌝ }
+    ensures { λ r. ⌜ r ≡ editionOf (now (sheet .entry)) ⌝ }
+{
+    let trailer = read_trailer(sheet);
+    trailer.edition
+}
+
 // Number 2: the mark, and an edition that is defined.
 fn mark_fits(t: Trailer) -> bool
     ensures { λ r. ⌜ r ≡ markFits t ⌝ }
 {
-    (t.mark == 0x4C44) & (t.edition == 1)
+    (t.mark == 0x4C44) & is_edition(t.edition)
 }
 
 // Number 3: the counts keep their limits.

@@ -1,21 +1,27 @@
 // Lines: ten words each.
+use crate::layout::edition_of;
+use rules::editions::row_in;
 use rules::instances::is_instance;
 use rules::judgments::LineJudgment;
+use rules::judgments::last_context;
 use rules::judgments::subject_use;
 use rules::table::conclusion_form;
 use rules::table::is_rule;
 use rules::table::premise_count;
+use rules::table::rule_table;
 use terms::words::word_at;
 ghost use mathlib.Core.Path.{_≡_};
 ghost use Prim.Native.Nat.{_+_, _*_, _<_, _≤_};
 ghost use lib.ListN.{length};
 ghost use Rattle.terms.specs.Decides.{Decides};
-ghost use Rattle.rules.specs.RuleTable.{formOf, premiseCount};
+ghost use Rattle.rules.specs.RuleTable.{ruleTable, formOf, premiseCount};
+ghost use Rattle.sheets.specs.Layout.{editionOf};
 ghost use Rattle.sheets.specs.Lines.{lineWord, lineOf, judgmentOf, below, subjectsFit, premisesFit, ruleFits, numbersFit, lineFits, lineAt, LineFollows, checkLines};
 ghost use Rattle.sheets.specs.Good.{WellFormedTables, GoodBefore};
 ghost use Rattle.sheets.specs.GoodLines.{LineOk};
 
-// The words of a line.
+// A line as its edition reads it: its words, but that `rule` is the row of the rule table, 0 where the edition does not
+// admit the rule.
 pub struct Line {
     pub form: usize,
     pub rule: usize,
@@ -43,14 +49,14 @@ fn line_word(lines: &[u8], n: usize, j: usize) -> usize
     word_at(lines, 10 * n + j)
 }
 
-// Line `n`, its words assembled once.
-pub fn read_line(lines: &[u8], n: usize) -> Line
+// Line `n`, its words assembled once; the rule is the row by which the edition judges it.
+pub fn read_line(edition: usize, lines: &[u8], n: usize) -> Line
     requires { ⌜ 20 * n + 20 ≤ length (now lines) ⌝ }
-    ensures { λ r. ⌜ r ≡ lineOf (now (lines .entry)) n ⌝ }
+    ensures { λ r. ⌜ r ≡ lineOf edition (now (lines .entry)) n ⌝ }
 {
     Line {
         form: line_word(lines, n, 0),
-        rule: line_word(lines, n, 1),
+        rule: row_in(edition, line_word(lines, n, 1)),
         context: line_word(lines, n, 2),
         s1: line_word(lines, n, 3),
         s2: line_word(lines, n, 4),
@@ -113,25 +119,37 @@ fn numbers_fit(line: Line, count: usize, n: usize, terms: usize, contexts: usize
     requires { ⌜ count ≡ premiseCount (line .rule) ⌝ }
     ensures { λ r. ⌜ r ≡ numbersFit line n terms contexts ⌝ }
 {
-    (line.context <= contexts)
-        & subjects_fit(judgment_of(line), terms)
+    let j = judgment_of(line);
+    (line.context <= last_context(j.form, contexts))
+        & subjects_fit(j, terms)
         & premises_fit(line, count, n)
 }
 
 // Number 9 at line `n`, over the given numbers of terms and of contexts.
-fn line_fits(line: Line, n: usize, terms: usize, contexts: usize) -> bool
+fn line_fits(table: &[u8; 670], line: Line, n: usize, terms: usize, contexts: usize) -> bool
+    requires { ⌜ now table ≡ ruleTable ⌝ }
     ensures { λ r. ⌜ r ≡ lineFits line n terms contexts ⌝ }
 {
     let rule = line.rule;
     if rule_fits(line, conclusion_form(rule)) {
-        numbers_fit(line, premise_count(rule), n, terms, contexts)
+        numbers_fit(line, premise_count(table, rule), n, terms, contexts)
     } else {
         false
     }
 }
 
 // Number 10 at line `n`. An unused premise word is 0, and line 0 is there; what it states is not looked at.
-fn line_follows(sheet: &[u8], terms: usize, contexts: usize, line: Line, n: usize) -> bool
+fn line_follows(
+    table: &[u8; 670],
+    sheet: &[u8],
+    edition: usize,
+    terms: usize,
+    contexts: usize,
+    line: Line,
+    n: usize,
+) -> bool
+    requires { ⌜ now table ≡ ruleTable ⌝ }
+    requires { ⌜ edition ≡ editionOf (now sheet) ⌝ }
     requires { ⌜ GoodBefore (now sheet) terms contexts n × (line ≡ lineAt (now sheet) terms contexts n) × LineOk line n terms contexts ⌝ }
     ensures { λ r. ⌜ Decides r (LineFollows (now (sheet .entry)) terms contexts n) ⌝ }
 {
@@ -139,11 +157,12 @@ fn line_follows(sheet: &[u8], terms: usize, contexts: usize, line: Line, n: usiz
     let after_contexts = 10 * terms + 4 * contexts;
     let context_rows = &sheet[after_terms..];
     let lines = &sheet[after_contexts..];
-    let p = judgment_of(read_line(lines, line.p0));
-    let q = judgment_of(read_line(lines, line.p1));
-    let r = judgment_of(read_line(lines, line.p2));
-    let s = judgment_of(read_line(lines, line.p3));
+    let p = judgment_of(read_line(edition, lines, line.p0));
+    let q = judgment_of(read_line(edition, lines, line.p1));
+    let r = judgment_of(read_line(edition, lines, line.p2));
+    let s = judgment_of(read_line(edition, lines, line.p3));
     is_instance(
+        table,
         sheet,
         context_rows,
         line.rule,
@@ -160,13 +179,19 @@ pub fn check_lines(sheet: &[u8], terms: usize, contexts: usize, count: usize) ->
     requires { ⌜ WellFormedTables (now sheet) terms contexts count ⌝ }
     ensures { λ r. ⌜ r ≡ checkLines (now (sheet .entry)) terms contexts count ⌝ }
 {
+    // where there is no line, no table is made
+    if count == 0 {
+        return LinesAnswer::NoFault;
+    }
     let start = 10 * terms + 4 * contexts;
     let lines = &sheet[start..];
+    let edition = edition_of(sheet);
+    let table = rule_table();
     let mut n = 0;
     while n < count {
-        let line = read_line(lines, n);
-        if line_fits(line, n, terms, contexts) {
-            if line_follows(sheet, terms, contexts, line, n) {
+        let line = read_line(edition, lines, n);
+        if line_fits(&table, line, n, terms, contexts) {
+            if line_follows(&table, sheet, edition, terms, contexts, line, n) {
                 n += 1;
             } else {
                 return LinesAnswer::Faulty {

@@ -1,9 +1,11 @@
 // Withdrawal of a line.
 use crate::admission::Admission;
 use crate::admission::admit;
+use crate::layout::edition_of;
 use crate::lines::Line;
 use crate::lines::read_line;
 use rules::table::premise_count;
+use rules::table::rule_table;
 use terms::words::word_at;
 ghost use mathlib.Core.Path.{_≡_};
 ghost use Prim.Native.Nat.{_+_, _-_, _*_, _<_, _≤_};
@@ -13,7 +15,7 @@ ghost use Rattle.terms.specs.Buffers.{over};
 ghost use Rattle.sheets.specs.Admission.{workAfter};
 ghost use Rattle.terms.specs.Lists.{listed};
 ghost use Rattle.sheets.specs.Good.{Good};
-ghost use Rattle.rules.specs.RuleTable.{IsRule};
+ghost use Rattle.rules.specs.RuleTable.{ruleTable, IsRule};
 ghost use Rattle.sheets.specs.Withdrawal.{KnownRules, uses, firstUse, afterLine, withdrawOf, lowered as loweredWord, trailerLoses, oldPlace, newWord, outFrom, outAfter, KeepsTheOthers};
 
 // What withdrawal answers: the new sheet's length, or the number of a refusal and its place.
@@ -33,11 +35,12 @@ fn trailer_loses(i: usize) -> usize
 }
 
 // Number 12: is `n` among the premises that the line's rule uses?
-fn uses_line(line: Line, n: usize) -> bool
+fn uses_line(table: &[u8; 670], line: Line, n: usize) -> bool
+    requires { ⌜ now table ≡ ruleTable ⌝ }
     requires { ⌜ IsRule (line .rule) ⌝ }
     ensures { λ r. ⌜ r ≡ uses line n ⌝ }
 {
-    let count = premise_count(line.rule);
+    let count = premise_count(table, line.rule);
     ((0 < count) & (line.p0 == n))
         | ((1 < count) & (line.p1 == n))
         | ((2 < count) & (line.p2 == n))
@@ -45,13 +48,14 @@ fn uses_line(line: Line, n: usize) -> bool
 }
 
 // The lowest line behind line `n`, of the first `count`, that uses it; `count` if none does.
-fn first_use(lines: &[u8], count: usize, n: usize) -> usize
-    requires { ⌜ (20 * count ≤ length (now lines)) × (n < count) × KnownRules (now lines) count ⌝ }
-    ensures { λ r. ⌜ r ≡ firstUse (now (lines .entry)) count n ⌝ }
+fn first_use(edition: usize, lines: &[u8], count: usize, n: usize) -> usize
+    requires { ⌜ (20 * count ≤ length (now lines)) × (n < count) × KnownRules edition (now lines) count ⌝ }
+    ensures { λ r. ⌜ r ≡ firstUse edition (now (lines .entry)) count n ⌝ }
 {
+    let table = rule_table();
     let mut k = n + 1;
     while k < count {
-        if uses_line(read_line(lines, k), n) {
+        if uses_line(&table, read_line(edition, lines, k), n) {
             return k;
         }
         k += 1;
@@ -148,7 +152,7 @@ fn withdraw_line(
         };
     }
     let after_contexts = 10 * terms + 4 * contexts;
-    let place = first_use(&sheet[after_contexts..], lines, n);
+    let place = first_use(edition_of(sheet), &sheet[after_contexts..], lines, n);
     if place < lines {
         return Withdrawal::Refused { number: 12, place };
     }

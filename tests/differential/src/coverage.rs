@@ -1,8 +1,9 @@
 //! What a run has seen.
 
 use crate::compare::Call;
-use crate::reference::layout::{word, Counts};
+use crate::reference::layout::{word, Counts, LAST_EDITION};
 use crate::reference::reading::Reading;
+use crate::reference::rules::LAST_RULE;
 use crate::reference::Answer;
 use std::fmt;
 
@@ -13,9 +14,14 @@ const FULL_GOAL: u64 = 1_000;
 /// The numbers that a call on a sheet may answer, 0 the successful ones; 15 and 16 are about dates.
 const NUMBERS: [usize; 16] = [0, 1, 2, 3, 4, 5, 6, 7, 8, 9, 10, 11, 12, 13, 14, 17];
 
+/// Lines by rule; there is no rule 0.
+pub type ByRule = [u64; LAST_RULE as usize + 1];
+const NO_LINES: ByRule = [0; LAST_RULE as usize + 1];
+
 pub struct Coverage {
     pub inputs: u64,
-    pub accepted: u64,
+    /// Accepted inputs by edition; there is no edition 0.
+    pub accepted: [u64; LAST_EDITION as usize + 1],
     pub calls: u64,
     pub differences: u64,
     /// Lines that the generator made as instances and the reference refused.
@@ -24,8 +30,8 @@ pub struct Coverage {
     pub numbers: [u64; 18],
     /// Terms that are not normal, and terms that are.
     pub terms: [u64; 2],
-    pub accepted_lines: [u64; 44],
-    pub refused_lines: [u64; 44],
+    pub accepted_lines: ByRule,
+    pub refused_lines: ByRule,
     /// Accepted lines of rule 38 by what the second premise stands under: A0, A1, or A0 = A1.
     pub domains: [u64; 3],
 }
@@ -34,14 +40,14 @@ impl Default for Coverage {
     fn default() -> Coverage {
         Coverage {
             inputs: 0,
-            accepted: 0,
+            accepted: [0; LAST_EDITION as usize + 1],
             calls: 0,
             differences: 0,
             unfit: 0,
             numbers: [0; 18],
             terms: [0; 2],
-            accepted_lines: [0; 44],
-            refused_lines: [0; 44],
+            accepted_lines: NO_LINES,
+            refused_lines: NO_LINES,
             domains: [0; 3],
         }
     }
@@ -50,7 +56,10 @@ impl Default for Coverage {
 impl Coverage {
     pub fn add_input(&mut self, sheet: &[u8], reading: &Reading) {
         self.inputs += 1;
-        if let Some(rule) = reading.refused_rule.filter(|rule| (1..=43).contains(rule)) {
+        if let Some(rule) = reading
+            .refused_rule
+            .filter(|rule| (1..=LAST_RULE).contains(rule))
+        {
             self.refused_lines[rule as usize] += 1;
         }
         let Some(counts) = reading.counts else {
@@ -61,7 +70,7 @@ impl Coverage {
             Some(fault) if fault.number >= 9 => fault.place,
             Some(_) => 0,
         };
-        self.accepted += u64::from(reading.refusal.is_none());
+        self.accepted[usize::from(counts.edition)] += u64::from(reading.refusal.is_none());
         for line in 0..lines {
             let rule = word(sheet, counts.line_at(line) + 2);
             self.accepted_lines[usize::from(rule)] += 1;
@@ -77,6 +86,10 @@ impl Coverage {
         if let (Call::Normal(_), 0) = (call, answer.number) {
             self.terms[answer.values[0]] += 1;
         }
+    }
+
+    pub fn all_accepted(&self) -> u64 {
+        self.accepted.iter().sum()
     }
 
     pub fn least_accepted(&self) -> u64 {
@@ -101,8 +114,13 @@ impl Coverage {
         if self.unfit > 0 {
             missed.push(format!("{} generated lines are no instances", self.unfit));
         }
-        if full && self.accepted * 3 < self.inputs {
-            missed.push("fewer than a third of the inputs are accepted".to_string());
+        if full && self.all_accepted() * 5 < self.inputs {
+            missed.push("fewer than a fifth of the inputs are accepted".to_string());
+        }
+        if self.accepted[1..].iter().any(|&count| count < goal) {
+            missed.push(format!(
+                "fewer than {goal} inputs of an edition are accepted"
+            ));
         }
         if self.domains.iter().any(|&count| count < goal) {
             missed.push(format!(
@@ -145,7 +163,7 @@ impl Coverage {
 
     fn write_rules(&self, f: &mut fmt::Formatter) -> fmt::Result {
         writeln!(f, "  rule accepted  refused")?;
-        for rule in 1..44 {
+        for rule in 1..=LAST_RULE as usize {
             let (yes, no) = (self.accepted_lines[rule], self.refused_lines[rule]);
             writeln!(f, "{rule:>6} {yes:>8} {no:>8}")?;
         }
@@ -162,7 +180,9 @@ impl Coverage {
 
 impl fmt::Display for Coverage {
     fn fmt(&self, f: &mut fmt::Formatter) -> fmt::Result {
-        writeln!(f, "inputs {}, accepted {}", self.inputs, self.accepted)?;
+        let (all, [_, first, second]) = (self.all_accepted(), self.accepted);
+        write!(f, "inputs {}, accepted {all}: ", self.inputs)?;
+        writeln!(f, "of edition 1 {first}, of edition 2 {second}")?;
         writeln!(f, "calls compared {}", self.calls)?;
         self.write_numbers(f)?;
         self.write_rules(f)?;

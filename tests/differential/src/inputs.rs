@@ -1,5 +1,6 @@
 //! The sheets that are compared: valid ones, valid ones at the limits, term tables alone, and changed ones.
 
+use crate::coverage::ByRule;
 use crate::generate::arrange::{after_empty, needed, reordered, repeated};
 use crate::generate::derivation::Line;
 use crate::generate::encode::{encode, Style};
@@ -10,6 +11,7 @@ use crate::mutate::bytes::{change_bytes, change_line_at};
 use crate::mutate::lines::change_line;
 use crate::random::Random;
 use crate::reference::layout::{MAX_CONTEXTS, MAX_LINES, MAX_TERMS};
+use crate::reference::rules::last_rule;
 
 pub struct Inputs {
     random: Random,
@@ -26,17 +28,17 @@ impl Inputs {
     }
 
     /// The next sheet. `refused` counts by rule the lines refused so far: the rules with few are aimed at.
-    pub fn next(&mut self, refused: &[u64; 44]) -> Vec<u8> {
+    pub fn next(&mut self, refused: &ByRule) -> Vec<u8> {
         match self.random.below(1000) {
             0..=2 => self.at_limits(),
             3..=12 => self.terms_alone(),
-            13..=339 => self.valid(),
-            340..=389 => {
+            13..=159 => self.valid(),
+            160..=204 => {
                 let sheet = self.valid();
                 change_bytes(&sheet, &mut self.random)
             }
-            390..=419 => self.with_changed_words(refused),
-            420..=559 => self.with_non_instance(refused),
+            205..=229 => self.with_changed_words(refused),
+            230..=439 => self.with_non_instance(refused),
             _ => self.with_changed_line(refused),
         }
     }
@@ -52,6 +54,7 @@ impl Inputs {
         Style {
             shuffled: self.random.one_in(2),
             unused_one_in: self.random.pick(&[0, 0, 5, 20]).unwrap_or(0),
+            later_edition: self.random.one_in(4),
             ..Style::default()
         }
     }
@@ -117,10 +120,15 @@ impl Inputs {
         encode(&mut maker.d.terms, &lines, style, &mut self.random)
     }
 
-    /// A line of the rule that was refused least among those of the lines.
-    fn target(&mut self, lines: &[Line], refused: &[u64; 44]) -> usize {
-        let count = |line: &Line| refused[line.rule as usize];
-        let least = lines.iter().min_by_key(|line| count(line));
+    /// A line of the rule that was refused least among those of the lines. A third of the time rules 2 to 43 go before
+    /// the others, so that their lines are changed beside lines of all forms; rule 1 nearly every sheet has.
+    fn target(&mut self, lines: &[Line], refused: &ByRule) -> usize {
+        let earlier_first = self.random.one_in(3);
+        let order = |line: &&Line| {
+            let is_earlier = (2..=last_rule(1)).contains(&line.rule);
+            (earlier_first && !is_earlier, refused[line.rule as usize])
+        };
+        let least = lines.iter().min_by_key(order);
         let rule = least.map_or(1, |line| line.rule);
         let of_rule: Vec<usize> = (0..lines.len())
             .filter(|&number| lines[number].rule == rule)
@@ -128,7 +136,7 @@ impl Inputs {
         self.random.pick(&of_rule).unwrap_or(0)
     }
 
-    fn with_changed_line(&mut self, refused: &[u64; 44]) -> Vec<u8> {
+    fn with_changed_line(&mut self, refused: &ByRule) -> Vec<u8> {
         let mut maker = self.derivation();
         let lines = self.arranged(&maker);
         let number = self.target(&lines, refused);
@@ -138,7 +146,7 @@ impl Inputs {
     }
 
     /// What a line that is most likely no instance rests on, that line, and some others.
-    fn with_non_instance(&mut self, refused: &[u64; 44]) -> Vec<u8> {
+    fn with_non_instance(&mut self, refused: &ByRule) -> Vec<u8> {
         let mut maker = self.derivation();
         let target = self.target(&maker.d.lines, refused);
         let rule = maker.d.lines[target].rule;
@@ -155,7 +163,7 @@ impl Inputs {
         encode(&mut maker.d.terms, &lines, style, &mut self.random)
     }
 
-    fn with_changed_words(&mut self, refused: &[u64; 44]) -> Vec<u8> {
+    fn with_changed_words(&mut self, refused: &ByRule) -> Vec<u8> {
         let mut maker = self.derivation();
         let lines = self.arranged(&maker);
         let number = self.target(&lines, refused);

@@ -2,15 +2,13 @@
 //! conclusion in contexts of up to one entry, the second premise of up to three, against the conditions that the papers
 //! state.
 
-use differential::compare::{on_both, Buffers, Call};
-use differential::generate::arrange::needed;
+mod common;
+
+use common::is_admitted;
 use differential::generate::derivation::Line;
-use differential::generate::encode::{encode, Style};
 use differential::generate::maker::Maker;
-use differential::random::Random;
 use differential::reference::judgments::Judgment::Subtype;
 use differential::reference::layout::{MAX_LINES, MAX_SIZE};
-use differential::reference::reading::Reading;
 use differential::reference::terms::{Context, Node, Term, EMPTY};
 
 /// The levels of the domains, which are universes; those of the bodies B0 and B1 are 3 and 4.
@@ -84,26 +82,6 @@ impl Lines {
             premises: vec![first, second],
         }
     }
-
-    /// Whether the line is admitted behind what it rests on; if not, it is refused by 10.
-    fn is_admitted(&mut self, line: Line) -> bool {
-        let mut lines = self.maker.d.lines.clone();
-        lines.push(line);
-        let lines = needed(&lines, &[lines.len() - 1]);
-        let random = &mut Random::new(0);
-        let sheet = encode(&mut self.maker.d.terms, &lines, Style::default(), random);
-        let reading = Reading::of(&sheet);
-        let buffers = Buffers {
-            work: vec![0; reading.sizes.len()],
-            out: Vec::new(),
-        };
-        let (outcome, difference) = on_both(&reading, &sheet, Call::Admit, buffers);
-        assert_eq!(difference, None);
-        let answer = outcome.answer;
-        let refused = (answer.number, answer.values[0]) == (10, lines.len() - 1);
-        assert!(answer.number == 0 || refused, "{answer:?}");
-        !refused
-    }
 }
 
 #[test]
@@ -126,7 +104,7 @@ fn bodies_stand_under_the_domains_that_the_rules_name() {
             let wanted = lines.follows(rule, premises, conclusion);
             let line = lines.line(rule, premises, conclusion);
             let case = format!("{line:?}");
-            assert_eq!(lines.is_admitted(line), wanted, "{case}");
+            assert_eq!(is_admitted(&mut lines.maker, line), wanted, "{case}");
             admitted += usize::from(wanted);
         }
         assert_eq!(admitted, instances);

@@ -59,9 +59,12 @@ fn generated_sheets_are_accepted() {
         Kind::Large,
         Kind::LongContext,
         Kind::GreatTerms,
+        Kind::Normalisation,
+        Kind::GreatNormalisation,
+        Kind::Mixed,
     ];
-    for seed in 0..200 {
-        let mut maker = grow(seed, kinds[seed as usize % 5]);
+    for seed in 0..400 {
+        let mut maker = grow(seed, kinds[seed as usize % kinds.len()]);
         assert!(maker.d.unfit.is_empty());
         let lines = maker.d.lines.clone();
         let style = Style {

@@ -36,6 +36,7 @@ fn bucket(row: Row) -> u64 {
 /// The sheet of these rows, without contexts and lines.
 fn sheet_of(rows: &[Row]) -> Vec<u8> {
     let counts = Counts {
+        edition: 1,
         terms: rows.len(),
         contexts: 0,
         lines: 0,

@@ -42,7 +42,21 @@ fn entries(folder: &Path) -> impl Iterator<Item = PathBuf> {
     entries.map(|entry| entry.expect("an entry").path())
 }
 
-/// All sample sheets, those in folders of their own among them, with their paths.
+/// The sheets of the bundle, which stand one behind the other, with the lines of its list: name and length.
+fn bundled() -> Vec<(String, Vec<u8>)> {
+    let bundle = sheet("normalisation.sheets");
+    let mut left = &bundle[..];
+    let mut sheets = Vec::new();
+    for row in rows("normalisation.list") {
+        let (sheet, behind) = left.split_at(row[1].parse().expect("a length"));
+        sheets.push((row.join(" "), sheet.to_vec()));
+        left = behind;
+    }
+    assert!(left.is_empty());
+    sheets
+}
+
+/// All sample sheets, those in folders of their own and in the bundle among them, with their paths.
 fn sheets() -> Vec<(PathBuf, Vec<u8>)> {
     let data = folder().join("data");
     let inner = entries(&data).filter(|path| path.is_dir());
@@ -52,7 +66,10 @@ fn sheets() -> Vec<(PathBuf, Vec<u8>)> {
     };
     let named = |path: &PathBuf| path.extension().is_some_and(|end| end == "sheet");
     let paths = entries(&data).chain(inner.flat_map(|path| entries(&path)));
-    paths.filter(named).map(read).collect()
+    let bundled = bundled()
+        .into_iter()
+        .map(|(line, sheet)| (line.into(), sheet));
+    paths.filter(named).map(read).chain(bundled).collect()
 }
 
 /// What a call leaves, with a full work buffer and an output of so many bytes.
@@ -70,6 +87,13 @@ fn admissions(text: &mut Vec<String>) {
     for row in rows("admit.list") {
         let admitted = full(&sheet(&row[0]), Call::Admit, 0);
         text.push(format!("{} {}", row[0], printed(admitted.answer, 3)));
+    }
+}
+
+fn bundled_admissions(text: &mut Vec<String>) {
+    for (line, sheet) in bundled() {
+        let admitted = full(&sheet, Call::Admit, 0);
+        text.push(format!("{line} {}", printed(admitted.answer, 3)));
     }
 }
 
@@ -159,6 +183,7 @@ fn answers_are_those_of_the_samples() {
     windows(&calendar, &mut text);
     days(&calendar, &mut text);
     normal_terms(&mut text);
+    bundled_admissions(&mut text);
     let wanted: Vec<&str> = wanted.lines().collect();
     assert_eq!(text.len(), wanted.len());
     for (got, wanted) in text.iter().zip(wanted) {
@@ -242,7 +267,8 @@ fn work_samples() -> (Vec<Vec<String>>, Vec<u32>) {
     )
 }
 
-/// A row is a sheet, a term, the words of the work buffer and the answer. Word i of the buffer is 0x5A000000 + i before.
+/// A row is a sheet, a term, the words of the work buffer and the answer. Word i of the buffer is 0x5A000000 + i
+/// before.
 #[test]
 fn work_buffers_are_those_of_the_samples() {
     let (rows, words) = work_samples();

@@ -22,14 +22,14 @@ write-all-requires c κs = search needs
 returns : tie.Need-returns
 returns c = search needs
 
-room-in-requires : tie.Need-room-in-requires
-room-in-requires c κs = search needs
+length-in-requires : tie.Need-length-in-requires
+length-in-requires c κs = search needs
 
 array-borrow-prefix-out : tie.Need-array-borrow-prefix-out
 array-borrow-prefix-out c = search needs
 
 slice-aggregate-withdraw-line : tie.Need-slice-aggregate-withdraw-line
-slice-aggregate-withdraw-line c = sym (length-take-le _ _ (c .before .room-in .ensures .1))
+slice-aggregate-withdraw-line c = sym (length-take-le _ _ (c .before .length-in .ensures .1))
 
 withdraw-line-requires : tie.Need-withdraw-line-requires
 withdraw-line-requires c κs = search needs
@@ -47,7 +47,7 @@ withdraw-number-spec =
     slice-aggregate-write-all
     write-all-requires
     returns
-    room-in-requires
+    length-in-requires
     array-borrow-prefix-out
     slice-aggregate-withdraw-line
     withdraw-line-requires

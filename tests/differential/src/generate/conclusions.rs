@@ -1,6 +1,7 @@
 //! What a rule concludes from premises, for the rules whose conclusion the premises determine.
 
 use super::derivation::{stated, Derivation};
+use super::normalisation;
 use crate::reference::judgments::Judgment::{self, Equality, Subtype, Typing, WellFormed};
 use crate::reference::terms::{Context, Node, Term, Terms};
 
@@ -13,7 +14,8 @@ impl Derivation {
     }
 }
 
-/// The conclusion, as far as the premises have the shape that it is taken from. Nothing that ties premises together is tested.
+/// The conclusion, as far as the premises have the shape that it is taken from. Nothing that ties premises together is
+/// tested.
 pub fn conclude(terms: &mut Terms, rule: u32, p: &[Judgment]) -> Option<Judgment> {
     match rule {
         2 => Some(WellFormed(extended(terms, p)?)),
@@ -22,6 +24,7 @@ pub fn conclude(terms: &mut Terms, rule: u32, p: &[Judgment]) -> Option<Judgment
         17..=29 => conclude_equality(terms, rule, p),
         30..=34 => conclude_computation(terms, rule, p),
         35..=43 => conclude_subtype(terms, rule, p),
+        44..=67 => normalisation::conclude(terms, rule, p),
         _ => None,
     }
 }

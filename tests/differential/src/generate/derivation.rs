@@ -18,6 +18,13 @@ pub fn stated(lines: &[Line], numbers: &[usize]) -> Vec<Judgment> {
     numbers.iter().map(|&n| lines[n].judgment).collect()
 }
 
+/// A term's nodes as a tree, and its greatest index, bound ones included.
+#[derive(Clone, Copy)]
+struct Measure {
+    size: u64,
+    index: u32,
+}
+
 #[derive(Default)]
 pub struct Derivation {
     pub terms: Terms,
@@ -31,11 +38,11 @@ pub struct Derivation {
     known: Table<Judgment, usize>,
     by_rule: Table<(Judgment, u32), usize>,
     by_context: Table<(Context, u32), Vec<usize>>,
-    by_form: [Vec<usize>; 4],
+    by_form: [Vec<usize>; 7],
     rule_counts: Table<u32, usize>,
     by_type: Table<(Context, Term), Vec<usize>>,
     by_subject: Table<(Context, Term), Vec<usize>>,
-    sizes: Vec<u64>,
+    measures: Vec<Measure>,
     contexts: Vec<Context>,
 }
 
@@ -48,28 +55,35 @@ impl Derivation {
         }
     }
 
-    /// The tree size of a term.
-    pub fn size(&mut self, term: Term) -> u64 {
-        for number in self.sizes.len()..self.terms.count() {
-            let (list, count) = children(self.terms.node(number as Term));
-            let parts = list[..count].iter().map(|&(c, _)| self.sizes[c as usize]);
-            let sum = parts.fold(1u64, u64::saturating_add);
-            self.sizes.push(sum);
+    fn measure(&mut self, term: Term) -> Measure {
+        for number in self.measures.len()..self.terms.count() {
+            let measure = self.measure_of(self.terms.node(number as Term));
+            self.measures.push(measure);
         }
-        self.sizes[term as usize]
+        self.measures[term as usize]
+    }
+
+    /// The measure of a node over terms that are measured.
+    fn measure_of(&self, node: Node) -> Measure {
+        if let Node::Variable(index) = node {
+            return Measure { size: 1, index };
+        }
+        let (list, count) = children(node);
+        let parts = list[..count]
+            .iter()
+            .map(|&(c, _)| self.measures[c as usize]);
+        let none = Measure { size: 1, index: 0 };
+        parts.fold(none, |whole, part| Measure {
+            size: whole.size.saturating_add(part.size),
+            index: whole.index.max(part.index),
+        })
     }
 
     /// Whether a term keeps the limits of the format and of this derivation.
-    fn term_fits(&mut self, term: Term) -> bool {
-        self.size(term) <= self.max_size && self.leaves_fit(term)
-    }
-
-    fn leaves_fit(&self, term: Term) -> bool {
-        match self.terms.node(term) {
-            Node::Variable(index) => index <= MAX_INDEX,
-            Node::Universe(level) => level <= MAX_LEVEL,
-            _ => self.terms.free_bound(term) <= MAX_INDEX,
-        }
+    pub fn term_fits(&mut self, term: Term) -> bool {
+        let measure = self.measure(term);
+        let level = self.terms.universe(term).unwrap_or(0);
+        measure.size <= self.max_size && measure.index <= MAX_INDEX && level <= MAX_LEVEL
     }
 
     /// Adds a line, or names the one that states the judgment by the same rule already. None beyond the limits.

@@ -4,6 +4,7 @@ use super::derivation::Line;
 use crate::random::Random;
 use crate::reference::judgments::Judgment;
 use crate::reference::layout::{Counts, MAX_SIZE};
+use crate::reference::rules::last_rule;
 use crate::reference::terms::{children, Context, Node, Table, Term, Terms, EMPTY};
 
 /// How a sheet is laid out.
@@ -17,6 +18,8 @@ pub struct Style {
     pub upto_terms: usize,
     /// Unused rows up to this many contexts.
     pub upto_contexts: usize,
+    /// Edition 2, even where edition 1 admits every rule.
+    pub later_edition: bool,
 }
 
 struct Encoder<'a> {
@@ -43,7 +46,11 @@ pub fn encode(terms: &mut Terms, lines: &[Line], style: Style, random: &mut Rand
 /// The sheet of all these terms under their own numbers, without contexts and lines.
 pub fn encode_terms(terms: &mut Terms, random: &mut Random) -> Vec<u8> {
     let all = terms.count() as Term;
-    let mut encoder = Encoder::new(terms, Style::default(), random);
+    let style = Style {
+        later_edition: random.one_in(3),
+        ..Style::default()
+    };
+    let mut encoder = Encoder::new(terms, style, random);
     for term in 0..all {
         encoder.emit(term);
     }
@@ -209,7 +216,10 @@ impl Encoder<'_> {
             Judgment::Equality(_, a, b, t) => {
                 (words[3], words[4], words[5]) = (number(a), number(b), number(t));
             }
-            Judgment::Subtype(_, a, b) => (words[3], words[4]) = (number(a), number(b)),
+            Judgment::Subtype(_, a, b) | Judgment::Steps(_, a, b) => {
+                (words[3], words[4]) = (number(a), number(b));
+            }
+            Judgment::Normal(_, a) | Judgment::Neutral(_, a) => words[3] = number(a),
         }
         for (place, &premise) in line.premises.iter().enumerate() {
             words[6 + place] = premise as u16;
@@ -218,7 +228,9 @@ impl Encoder<'_> {
     }
 
     fn bytes(&self, lines: &[Line]) -> Vec<u8> {
+        let later = self.style.later_edition || lines.iter().any(|l| l.rule > last_rule(1));
         let counts = Counts {
+            edition: if later { 2 } else { 1 },
             terms: self.rows.len(),
             contexts: self.contexts.len(),
             lines: lines.len(),

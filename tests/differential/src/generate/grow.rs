@@ -4,7 +4,9 @@ use super::maker::Maker;
 use crate::random::Random;
 use crate::reference::judgments::Judgment::{Typing, WellFormed};
 use crate::reference::layout::{MAX_LINES, MAX_SIZE};
+use crate::reference::rules::{last_rule, LAST_RULE};
 use crate::reference::terms::{Context, Node, EMPTY};
+use std::ops::RangeInclusive;
 
 /// What kind of derivation is grown.
 #[derive(Clone, Copy, Debug, PartialEq, Eq)]
@@ -14,15 +16,24 @@ pub enum Kind {
     Large,
     LongContext,
     GreatTerms,
+    /// Rules 44 to 67 alone.
+    Normalisation,
+    /// Rules 44 to 67 on terms up to the greatest.
+    GreatNormalisation,
+    /// All rules.
+    Mixed,
 }
 
 pub fn some_kind(random: &mut Random) -> Kind {
     match random.below(100) {
-        0..=9 => Kind::Tiny,
-        10..=89 => Kind::Usual,
-        90..=92 => Kind::Large,
-        93..=96 => Kind::LongContext,
-        _ => Kind::GreatTerms,
+        0..=4 => Kind::Tiny,
+        5..=48 => Kind::Usual,
+        49..=50 => Kind::Large,
+        51..=53 => Kind::LongContext,
+        54..=55 => Kind::GreatTerms,
+        56..=82 => Kind::Normalisation,
+        83 => Kind::GreatNormalisation,
+        _ => Kind::Mixed,
     }
 }
 
@@ -31,24 +42,35 @@ pub fn grow(seed: u64, kind: Kind) -> Maker {
     let mut random = Random::new(seed);
     let max_lines = match kind {
         Kind::Tiny => 2 + random.below(12),
-        Kind::Usual => 40 + random.below(160),
+        Kind::Usual => 50 + random.below(220),
         Kind::Large => 200 + random.below(MAX_LINES - 200),
         Kind::LongContext => 100 + random.below(500),
         Kind::GreatTerms => 60 + random.below(60),
+        Kind::Normalisation | Kind::GreatNormalisation => 30 + random.below(90),
+        Kind::Mixed => 80 + random.below(240),
     };
-    let max_size = if kind == Kind::GreatTerms {
-        MAX_SIZE
-    } else {
-        300
+    let max_size = match kind {
+        Kind::GreatTerms | Kind::GreatNormalisation => MAX_SIZE,
+        _ => 300,
     };
     let mut maker = Maker::new(random.word(), max_lines, max_size);
     match kind {
         Kind::LongContext => long_context(&mut maker),
         Kind::GreatTerms => great_terms(&mut maker),
+        Kind::Normalisation | Kind::GreatNormalisation => {}
         _ => usual_contexts(&mut maker),
     }
-    take_steps(&mut maker);
+    take_steps(&mut maker, kind);
     maker
+}
+
+/// The rules of a kind's lines.
+fn rules(kind: Kind) -> RangeInclusive<u32> {
+    match kind {
+        Kind::Normalisation | Kind::GreatNormalisation => last_rule(1) + 1..=LAST_RULE,
+        Kind::Mixed => 1..=LAST_RULE,
+        _ => 1..=last_rule(1),
+    }
 }
 
 fn usual_contexts(maker: &mut Maker) {
@@ -70,15 +92,16 @@ fn usual_contexts(maker: &mut Maker) {
 }
 
 /// Steps until the derivation is full or nothing more comes of it, by random rules, rather those that have few lines.
-fn take_steps(maker: &mut Maker) {
+fn take_steps(maker: &mut Maker, kind: Kind) {
+    let rules: Vec<u32> = rules(kind).collect();
     let mut idle = 0;
     while !maker.d.full() && idle < 200 {
-        let choices = [0; 3].map(|_| 1 + maker.random.below(43) as u32);
+        let choices = [0; 4].map(|_| rules[maker.random.below(rules.len())]);
         let few = |&rule: &u32| maker.d.lines_by(rule);
         let rule = choices.into_iter().min_by_key(few).unwrap_or(1);
         let fuel = 1 + maker.random.below(3) as u32;
         let before = maker.d.lines.len();
-        if maker.random.one_in(8) {
+        if maker.random.one_in(8) && rules[0] == 1 {
             maker.variant_step();
         } else {
             maker.step(rule, fuel);

@@ -12,6 +12,8 @@ mod infer;
 mod inhabit;
 pub mod maker;
 mod non_instances;
+mod normal_steps;
+pub mod normalisation;
 mod steps;
 mod subtypes;
 pub mod tables;

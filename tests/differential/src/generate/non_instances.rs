@@ -1,12 +1,14 @@
 //! Lines that most likely fail a rule, and only by what ties its premises together: some premises stand in a longer
-//! context, or at an equal type, or the bodies of L-PI or L-SIG stand under other entries.
+//! context, or at an equal type, or the bodies of L-PI or L-SIG stand under other entries. Those of rules 44 to 67 fail
+//! only by the forms of the premises.
 
 use super::conclusions::conclude;
 use super::derivation::{stated, Line};
 use super::maker::Maker;
+use super::normalisation::{conclude_redex, uncited_part};
 use crate::reference::judgments::Judgment;
 use crate::reference::rules::instance;
-use crate::reference::terms::{Context, Term};
+use crate::reference::terms::{Context, Term, EMPTY};
 
 impl Maker {
     /// A line of the rule that is most likely no instance of it, over lines that are derived.
@@ -30,10 +32,11 @@ impl Maker {
         let old = self.d.lines[line].clone();
         let premises = match old.rule {
             38 | 39 if self.random.below(3) > 0 => self.with_misplaced_bodies(&old)?,
+            44..=67 => self.with_other_forms(&old)?,
             _ => self.with_changed_premises(&old)?,
         };
         let stated = stated(&self.d.lines, &premises);
-        let mut judgment = conclude(&mut self.d.terms, old.rule, &stated).unwrap_or(old.judgment);
+        let mut judgment = self.conclusion(&old, &stated);
         if self.random.one_in(2) {
             judgment = judgment.with(old.judgment.context(), &judgment.subjects());
         }
@@ -47,6 +50,17 @@ impl Maker {
             rule: old.rule,
             premises,
         })
+    }
+
+    /// What the rule concludes from the new premises, as far as they determine it.
+    fn conclusion(&mut self, old: &Line, stated: &[Judgment]) -> Judgment {
+        let terms = &mut self.d.terms;
+        let subjects = stated.first().map_or(vec![], |premise| premise.subjects());
+        let uncited = uncited_part(terms, old.rule, old.judgment);
+        if let (Some(any), Some(&cited)) = (uncited, subjects.first()) {
+            return conclude_redex(terms, old.rule, cited, any);
+        }
+        conclude(terms, old.rule, stated).unwrap_or(old.judgment)
     }
 
     /// Some premises in a longer context, or at an equal type.
@@ -65,6 +79,19 @@ impl Maker {
             premises[place] = changed.unwrap_or(premises[place]);
         }
         Some(premises)
+    }
+
+    /// Lines of other forms, one or several: normal, neutral, steps, or typed in the empty context.
+    fn with_other_forms(&mut self, old: &Line) -> Option<Vec<usize>> {
+        let mut premises = old.premises.clone();
+        for place in self.chosen(&old.premises, EMPTY) {
+            let form = self.d.judgment(premises[place]).form();
+            let others: Vec<u32> = [1, 4, 5, 6].into_iter().filter(|&f| f != form).collect();
+            let other = self.random.pick(&others)?;
+            let lines = self.d.lines_in(EMPTY, other);
+            premises[place] = self.random.pick(lines).unwrap_or(premises[place]);
+        }
+        (premises != old.premises).then_some(premises)
     }
 
     /// The domains of L-PI or L-SIG, with bodies that stand under the lesser domain (L-SIG alone), under a third type,

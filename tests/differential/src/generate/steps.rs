@@ -15,7 +15,8 @@ impl Maker {
             5..=16 => self.typing_step(rule, g, fuel),
             17..=24 => self.equality_step(rule, g, fuel),
             25..=34 => self.projection_step(rule, g, fuel),
-            _ => self.subtype_step(rule, g, fuel),
+            35..=43 => self.subtype_step(rule, g, fuel),
+            _ => self.normalisation_step(rule, fuel),
         }
     }
 
@@ -62,7 +63,8 @@ impl Maker {
         })
     }
 
-    fn any(&mut self, form: u32) -> Option<usize> {
+    /// Any line of the form.
+    pub fn any(&mut self, form: u32) -> Option<usize> {
         self.line_with(form, |_, _| true)
     }
 

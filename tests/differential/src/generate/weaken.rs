@@ -2,12 +2,17 @@
 
 use super::maker::Maker;
 use crate::reference::judgments::Judgment::WellFormed;
+use crate::reference::rules::last_rule;
 use crate::reference::terms::{Context, EMPTY};
 
 impl Maker {
     /// The line's judgment, stated in an extension of `g`, with one entry more after `g`: `h` is `g` with that entry.
     pub fn weaken(&mut self, line: usize, g: Context, h: Context) -> Option<usize> {
         let from = self.d.lines[line].clone();
+        // Normal and neutral forms and head steps stand in the empty context alone.
+        if from.rule > last_rule(1) {
+            return None;
+        }
         if from.judgment == WellFormed(g) {
             return self.wf(h);
         }

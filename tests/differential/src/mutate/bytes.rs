@@ -18,7 +18,7 @@ pub fn change_bytes(sheet: &[u8], random: &mut Random) -> Vec<u8> {
         flip(&mut new, random);
         return new;
     };
-    match random.below(18) {
+    match random.below(20) {
         0 => flip(&mut new, random),
         1 | 2 => change_trailer(&mut new, random),
         3 => change_length(&mut new, random),
@@ -31,6 +31,7 @@ pub fn change_bytes(sheet: &[u8], random: &mut Random) -> Vec<u8> {
         11 | 14 => new = with_great_term(sheet, counts, random),
         12 => fill_unused(&mut new, counts, random),
         13 => new = one_term_more(sheet, counts, random),
+        15 | 16 => change_edition(&mut new, random),
         _ => change_line_word(&mut new, counts, random),
     }
     new
@@ -73,6 +74,13 @@ fn change_trailer(sheet: &mut [u8], random: &mut Random) {
     if random.one_in(3) {
         fit_distances(sheet);
     }
+}
+
+/// Another edition, defined or not.
+fn change_edition(sheet: &mut [u8], random: &mut Random) {
+    let edition = random.pick(&[0, 1, 1, 2, 2, 3, 0x0101, 0x0200]);
+    let at = sheet.len() - TRAILER + 6;
+    set_word(sheet, at, edition.unwrap_or(0));
 }
 
 /// A count so much greater that the distances agree with it as words of 16 bits.

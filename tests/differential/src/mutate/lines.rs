@@ -1,11 +1,11 @@
 //! Changes of one line of a derivation, before it is encoded.
 
 use super::misread::Misreading;
-use super::perturb::perturbed;
-use super::premises::change_premise;
+use super::perturb::{changed_near_top, perturbed};
+use super::premises::{change_premise, change_premise_form};
 use crate::generate::derivation::{stated, Line};
 use crate::random::Random;
-use crate::reference::rules::{conclusion_form, instance, premise_count};
+use crate::reference::rules::{conclusion_form, instance, premise_count, LAST_RULE};
 use crate::reference::terms::{Term, Terms};
 
 /// The lines with the given one changed so that it is most likely no instance of its rule. One change in four is kept
@@ -42,7 +42,7 @@ fn changed_once(terms: &mut Terms, lines: &[Line], number: usize, random: &mut R
         return change_premise(terms, lines, number, random);
     }
     let mut line = lines[number].clone();
-    match random.below(10) {
+    match random.below(15) {
         0..=2 => {
             let mut misreading = Misreading {
                 terms,
@@ -53,11 +53,13 @@ fn changed_once(terms: &mut Terms, lines: &[Line], number: usize, random: &mut R
             };
             line.judgment = misreading.conclusion().unwrap_or(line.judgment);
         }
-        3 | 4 => perturb_subject(terms, lines, &mut line, random),
+        3 | 4 => change_subject(terms, lines, &mut line, perturbed, random),
         5 => other_subject(lines, &mut line, random),
         6 => exchange_subjects(&mut line, random),
         7 => other_context(terms, lines, &mut line, random),
         8 => exchange_premises(&mut line, random),
+        9 | 10 => line = change_premise_form(lines, number, random),
+        11..=13 => change_subject(terms, lines, &mut line, changed_near_top, random),
         _ => other_rule(&mut line, number, random),
     }
     line
@@ -69,14 +71,20 @@ fn pool(lines: &[Line], random: &mut Random) -> Vec<Term> {
     near.flat_map(|line| line.judgment.subjects()).collect()
 }
 
-fn perturb_subject(terms: &mut Terms, lines: &[Line], line: &mut Line, random: &mut Random) {
+fn change_subject(
+    terms: &mut Terms,
+    lines: &[Line],
+    line: &mut Line,
+    change: fn(&mut Terms, Term, &[Term], &mut Random) -> Term,
+    random: &mut Random,
+) {
     let mut subjects = line.judgment.subjects();
     if subjects.is_empty() {
         return;
     }
     let place = random.below(subjects.len());
     let pool = pool(lines, random);
-    subjects[place] = perturbed(terms, subjects[place], &pool, random);
+    subjects[place] = change(terms, subjects[place], &pool, random);
     line.judgment = line.judgment.with(line.judgment.context(), &subjects);
 }
 
@@ -114,7 +122,7 @@ fn exchange_premises(line: &mut Line, random: &mut Random) {
 
 /// Another rule of the same form; premises are cut off or added to fit its count.
 fn other_rule(line: &mut Line, number: usize, random: &mut Random) {
-    let rule = 1 + random.below(43) as u32;
+    let rule = 1 + random.below(LAST_RULE as usize) as u32;
     if conclusion_form(rule) != Some(line.judgment.form()) {
         return;
     }

@@ -24,12 +24,14 @@ impl Misreading<'_> {
             33 | 34 => self.induction(),
             38 | 39 | 40 | 42 => self.order(),
             41 | 43 => self.bodies(),
+            44..=58 => self.normal_form(),
+            59..=67 => self.head_step(),
             _ => None,
         }
     }
 
     /// The body with the argument put in wrongly: not raised under binders, the rest not lowered, or at another index.
-    fn wrongly_at(&mut self, body: Term, argument: Term) -> Term {
+    pub fn wrongly_at(&mut self, body: Term, argument: Term) -> Term {
         match self.random.below(5) {
             0 => flat(self.terms, body, argument, 0),
             1 => self.terms.replace(body, &[argument], 1),
@@ -143,7 +145,7 @@ impl Misreading<'_> {
     }
 
     /// c with x and y replaced one after the other, exchanged, or by the wrong terms.
-    fn wrong_result(&mut self, c: Term, x: Term, y: Term) -> Term {
+    pub fn wrong_result(&mut self, c: Term, x: Term, y: Term) -> Term {
         let terms = &mut *self.terms;
         match self.random.below(5) {
             0 => {

@@ -3,5 +3,6 @@
 pub mod bytes;
 pub mod lines;
 mod misread;
+mod misread_normalisation;
 mod perturb;
 mod premises;

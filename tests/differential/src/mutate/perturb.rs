@@ -65,3 +65,42 @@ fn changed_node(
     };
     terms.make(other)
 }
+
+/// The term with another tag or another part at its top, or at the top of a part.
+pub fn changed_near_top(terms: &mut Terms, term: Term, pool: &[Term], random: &mut Random) -> Term {
+    let node = terms.node(term);
+    let (list, count) = children(node);
+    if count == 0 {
+        return changed(terms, term, pool, random);
+    }
+    let place = random.below(count);
+    let mut with = list.map(|(child, _)| child);
+    match random.below(4) {
+        0 => return terms.make(retagged(node, random)),
+        1 => with[place] = random.pick(pool).unwrap_or(with[place]),
+        _ => with[place] = changed_near_top(terms, with[place], pool, random),
+    }
+    terms.make(with_children(node, with))
+}
+
+/// A node of any tag over the same parts, for ind the first two.
+pub fn retagged(node: Node, random: &mut Random) -> Node {
+    let (list, count) = children(node);
+    let [a, b] = [list[0].0, list[1].0];
+    let others = match count {
+        0 => [Node::Nat, Node::Zero, Node::Universe(0), Node::Variable(0)],
+        1 => [
+            Node::Lambda(a),
+            Node::First(a),
+            Node::Second(a),
+            Node::Succ(a),
+        ],
+        _ => [
+            Node::Pi(a, b),
+            Node::Sigma(a, b),
+            Node::Application(a, b),
+            Node::Pair(a, b),
+        ],
+    };
+    others[random.below(4)]
+}

@@ -1,9 +1,11 @@
-//! Another premise, with the conclusion that the rule's shape then gives: only what ties the premises together can fail.
+//! Another premise, with the conclusion that the rule's shape then gives: only what ties the premises together can
+//! fail.
 
 use crate::generate::conclusions::conclude;
 use crate::generate::derivation::{stated, Line};
 use crate::random::Random;
 use crate::reference::judgments::Judgment;
+use crate::reference::rules::last_rule;
 use crate::reference::terms::Terms;
 
 /// What a new premise has in common with the old one.
@@ -41,11 +43,47 @@ pub fn change_premise(
         let place = random.below(line.premises.len());
         line.premises[place] = other_line(terms, lines, number, line.premises[place], random);
     }
+    if keeps_conclusion(line.rule, random) {
+        return line;
+    }
     let stated = stated(lines, &line.premises);
     let old = line.judgment;
     line.judgment = conclude(terms, line.rule, &stated)
         .map(|new| in_some_context(terms, new, &stated, random))
         .unwrap_or_else(|| moved(old, &stated, random));
+    line
+}
+
+/// Nothing ties the premises of rules 44 to 67 together, those of N-EXP apart: only their old conclusion can fail.
+fn keeps_conclusion(rule: u32, random: &mut Random) -> bool {
+    rule > last_rule(1) && rule != 53 && random.below(8) > 0
+}
+
+/// The line with a line of another form, any of them, for one of its premises: as like the old one as can be.
+pub fn change_premise_form(lines: &[Line], number: usize, random: &mut Random) -> Line {
+    let mut line = lines[number].clone();
+    if line.premises.is_empty() {
+        return line;
+    }
+    let place = random.below(line.premises.len());
+    let cited = lines[line.premises[place]].judgment;
+    let likeness = |&l: &usize| {
+        let other = lines[l].judgment;
+        let same_context = other.context() == cited.context();
+        let same_term = other.subjects().first() == cited.subjects().first();
+        usize::from(same_context) + usize::from(same_term)
+    };
+    let has = |form: u32, l: &Line| l.judgment.form() == form;
+    let is_other =
+        |&form: &u32| form != cited.form() && lines[..number].iter().any(|l| has(form, l));
+    let forms: Vec<u32> = (0..=6).filter(is_other).collect();
+    let form = random.pick(&forms);
+    let start = random.below(number);
+    let others = (start..number).chain(0..start);
+    line.premises[place] = others
+        .filter(|&l| form.is_some_and(|form| has(form, &lines[l])))
+        .max_by_key(likeness)
+        .unwrap_or(line.premises[place]);
     line
 }
 

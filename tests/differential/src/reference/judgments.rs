@@ -12,9 +12,15 @@ pub enum Judgment {
     Equality(Context, Term, Term, Term),
     /// The first term is a subtype of the second.
     Subtype(Context, Term, Term),
+    /// The term is strongly normal.
+    Normal(Context, Term),
+    /// The term is strongly neutral.
+    Neutral(Context, Term),
+    /// The first term makes a strong head step to the second.
+    Steps(Context, Term, Term),
 }
 
-use Judgment::{Equality, Subtype, Typing, WellFormed};
+use Judgment::{Equality, Neutral, Normal, Steps, Subtype, Typing, WellFormed};
 
 impl Judgment {
     pub fn form(self) -> u32 {
@@ -23,12 +29,16 @@ impl Judgment {
             Typing(..) => 1,
             Equality(..) => 2,
             Subtype(..) => 3,
+            Normal(..) => 4,
+            Neutral(..) => 5,
+            Steps(..) => 6,
         }
     }
 
     pub fn context(self) -> Context {
         match self {
             WellFormed(g) | Typing(g, ..) | Equality(g, ..) | Subtype(g, ..) => g,
+            Normal(g, _) | Neutral(g, _) | Steps(g, ..) => g,
         }
     }
 
@@ -36,7 +46,8 @@ impl Judgment {
     pub fn subjects(self) -> Vec<Term> {
         match self {
             WellFormed(_) => vec![],
-            Typing(_, a, b) | Subtype(_, a, b) => vec![a, b],
+            Normal(_, a) | Neutral(_, a) => vec![a],
+            Typing(_, a, b) | Subtype(_, a, b) | Steps(_, a, b) => vec![a, b],
             Equality(_, a, b, c) => vec![a, b, c],
         }
     }
@@ -48,6 +59,9 @@ impl Judgment {
             Typing(..) => Typing(context, subjects[0], subjects[1]),
             Equality(..) => Equality(context, subjects[0], subjects[1], subjects[2]),
             Subtype(..) => Subtype(context, subjects[0], subjects[1]),
+            Normal(..) => Normal(context, subjects[0]),
+            Neutral(..) => Neutral(context, subjects[0]),
+            Steps(..) => Steps(context, subjects[0], subjects[1]),
         }
     }
 
@@ -75,6 +89,27 @@ impl Judgment {
     pub fn subtype(self) -> Option<(Context, Term, Term)> {
         match self {
             Subtype(g, a, b) => Some((g, a, b)),
+            _ => None,
+        }
+    }
+
+    pub fn normal(self) -> Option<(Context, Term)> {
+        match self {
+            Normal(g, a) => Some((g, a)),
+            _ => None,
+        }
+    }
+
+    pub fn neutral(self) -> Option<(Context, Term)> {
+        match self {
+            Neutral(g, a) => Some((g, a)),
+            _ => None,
+        }
+    }
+
+    pub fn steps(self) -> Option<(Context, Term, Term)> {
+        match self {
+            Steps(g, a, b) => Some((g, a, b)),
             _ => None,
         }
     }
@@ -113,6 +148,20 @@ impl Terms {
     pub fn application(&self, term: Term) -> Option<(Term, Term)> {
         match self.node(term) {
             Node::Application(b, a) => Some((b, a)),
+            _ => None,
+        }
+    }
+
+    pub fn lambda(&self, term: Term) -> Option<Term> {
+        match self.node(term) {
+            Node::Lambda(b) => Some(b),
+            _ => None,
+        }
+    }
+
+    pub fn pair(&self, term: Term) -> Option<(Term, Term)> {
+        match self.node(term) {
+            Node::Pair(a, b) => Some((a, b)),
             _ => None,
         }
     }

@@ -11,7 +11,7 @@ pub const TRAILER: usize = 16;
 pub const TERM_ROW: usize = 10;
 pub const CONTEXT_ROW: usize = 4;
 pub const LINE_ROW: usize = 20;
-pub const EDITION: u16 = 1;
+pub const LAST_EDITION: u16 = 2;
 pub const MARK: u16 = 0x4C44;
 
 /// The 16-bit word whose low byte stands at `at`.
@@ -23,21 +23,23 @@ pub fn set_word(sheet: &mut [u8], at: usize, value: u16) {
     sheet[at..at + 2].copy_from_slice(&value.to_le_bytes());
 }
 
-/// The counts of a sheet, and from them the place of each part.
+/// The edition and the counts of a sheet, and from them the place of each part.
 #[derive(Clone, Copy, Debug, PartialEq, Eq)]
 pub struct Counts {
+    pub edition: u16,
     pub terms: usize,
     pub contexts: usize,
     pub lines: usize,
 }
 
 impl Counts {
-    /// The counts that a trailer states, whether or not the rest of the sheet agrees.
+    /// What a trailer states, whether or not the rest of the sheet agrees.
     pub fn stated(sheet: &[u8]) -> Counts {
         let start = sheet.len() - TRAILER;
         let [terms, contexts, lines] =
             [0, 2, 4].map(|place| usize::from(word(sheet, start + place)));
         Counts {
+            edition: word(sheet, start + 6),
             terms,
             contexts,
             lines,
@@ -85,7 +87,7 @@ impl Counts {
             self.terms as u16,
             self.contexts as u16,
             self.lines as u16,
-            EDITION,
+            self.edition,
             terms as u16,
             contexts as u16,
             lines as u16,

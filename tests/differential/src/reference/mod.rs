@@ -1,6 +1,6 @@
 //! A second implementation of document 01, written from the papers: plain trees, real shift and substitution, and each
 //! rule by building what it concludes. Of document 02, A1: the calendar, walked day by day; A2: normal terms, by the
-//! clauses as printed; A3: rule 38 under either domain.
+//! clauses as printed; A3: rule 38 under either domain; A5: the rules of section 4 of source document 000.
 
 mod calls;
 mod contexts;
@@ -9,6 +9,7 @@ mod equality;
 pub mod judgments;
 pub mod layout;
 pub mod normal;
+mod normalisation;
 pub mod reading;
 pub mod rules;
 mod subtyping;

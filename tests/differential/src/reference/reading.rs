@@ -1,11 +1,12 @@
-//! Reads a sheet and checks it in the order of document 01: the trailer (1 to 3), then terms, contexts and lines. Number 4 depends on the work buffer and is tested by the calls.
+//! Reads a sheet and checks it in the order of document 01: the trailer (1 to 3), then terms, contexts and lines.
+//! Number 4 depends on the work buffer and is tested by the calls.
 
 use super::judgments::Judgment;
 use super::layout::{
-    word, Counts, EDITION, MARK, MAX_INDEX, MAX_LENGTH, MAX_LEVEL, MAX_SIZE, TRAILER,
+    word, Counts, LAST_EDITION, MARK, MAX_INDEX, MAX_LENGTH, MAX_LEVEL, MAX_SIZE, TRAILER,
 };
 use super::normal::{forms, Form};
-use super::rules::{conclusion_form, instance, premise_count};
+use super::rules::{conclusion_form, instance, last_rule, premise_count};
 use super::terms::{Context, Node, Table, Term, Terms, EMPTY};
 use super::Refusal;
 
@@ -61,7 +62,7 @@ fn read_trailer(sheet: &[u8]) -> Result<Counts, Refusal> {
     }
     let start = sheet.len() - TRAILER;
     let words: Vec<u16> = (0..8).map(|i| word(sheet, start + 2 * i)).collect();
-    if words[7] != MARK || words[3] != EDITION {
+    if words[7] != MARK || !(1..=LAST_EDITION).contains(&words[3]) {
         return Err(refuse(2, 0));
     }
     let counts = Counts::stated(sheet);
@@ -190,8 +191,12 @@ impl Tables<'_> {
 
     /// The judgment of a line whose form, rule, context and subjects keep the layout.
     fn judgment(&self, row: [u16; 10]) -> Option<Judgment> {
-        if conclusion_form(u32::from(row[1]))? != u32::from(row[0]) {
+        let rule = u32::from(row[1]);
+        if rule > last_rule(self.counts.edition) || conclusion_form(rule)? != u32::from(row[0]) {
             return None;
+        }
+        if row[0] >= 4 {
+            return self.normalisation(row);
         }
         let g = *self.contexts.get(usize::from(row[2]))?;
         let term = |place: usize| self.rows.get(usize::from(row[place])).copied();
@@ -210,6 +215,21 @@ impl Tables<'_> {
                 unused(5)?;
                 Some(Judgment::Subtype(g, term(3)?, term(4)?))
             }
+        }
+    }
+
+    /// The judgment of a line of form 4, 5 or 6: it stands in context 0.
+    fn normalisation(&self, row: [u16; 10]) -> Option<Judgment> {
+        let term = |place: usize| self.rows.get(usize::from(row[place])).copied();
+        if row[2] != 0 || row[5] != 0 {
+            return None;
+        }
+        let s1 = term(3)?;
+        match row[0] {
+            6 => Some(Judgment::Steps(EMPTY, s1, term(4)?)),
+            _ if row[4] != 0 => None,
+            5 => Some(Judgment::Neutral(EMPTY, s1)),
+            _ => Some(Judgment::Normal(EMPTY, s1)),
         }
     }
 

@@ -1,8 +1,19 @@
-//! The 43 rules between plain judgments, numbered as printed.
+//! The 67 rules between plain judgments, numbered as printed.
 
 use super::judgments::Judgment;
 use super::terms::Terms;
-use super::{contexts, equality, subtyping, typing};
+use super::{contexts, equality, normalisation, subtyping, typing};
+
+/// The number of the last rule.
+pub const LAST_RULE: u32 = 67;
+
+/// The number of the last rule that an edition admits.
+pub fn last_rule(edition: u16) -> u32 {
+    match edition {
+        1 => 43,
+        _ => LAST_RULE,
+    }
+}
 
 /// The form that a rule concludes; none for a number that is no rule's.
 pub fn conclusion_form(rule: u32) -> Option<u32> {
@@ -11,6 +22,9 @@ pub fn conclusion_form(rule: u32) -> Option<u32> {
         3..=16 => Some(1),
         17..=34 => Some(2),
         35..=43 => Some(3),
+        44..=53 => Some(4),
+        54..=58 => Some(5),
+        59..=67 => Some(6),
         _ => None,
     }
 }
@@ -18,10 +32,11 @@ pub fn conclusion_form(rule: u32) -> Option<u32> {
 /// The number of premises that a rule cites.
 pub fn premise_count(rule: u32) -> usize {
     match rule {
-        1 => 0,
-        15 | 28 => 4,
-        9 | 31 | 32 | 34 => 3,
+        1 | 49 | 51 | 52 | 54 => 0,
+        15 | 28 | 58 | 66 | 67 => 4,
+        9 | 31 | 32 | 34 | 65 => 3,
         2 | 4 | 6 | 8 | 16 | 19 | 20 | 22 | 23 | 24 | 29 | 30 | 33 | 35 | 38 | 39 | 41 | 43 => 2,
+        45 | 46 | 47 | 53 | 55 | 60 => 2,
         _ => 1,
     }
 }
@@ -33,6 +48,7 @@ pub fn instance(terms: &mut Terms, rule: u32, p: &[Judgment], c: Judgment) -> bo
         3..=16 => typing::follows(terms, rule, p, c),
         17..=34 => equality::follows(terms, rule, p, c),
         35..=43 => subtyping::follows(terms, rule, p, c),
+        44..=67 => normalisation::follows(terms, rule, p, c),
         _ => None,
     };
     follows == Some(true)

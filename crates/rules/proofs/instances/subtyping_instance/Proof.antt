@@ -85,7 +85,7 @@ returns-9 c = by-arm (c .before .before .before .before .pre) (c .before .match 
 returns-10 : tie.Need-returns-10
 returns-10 c =
     let line = c .before .before .before .pre in
-    absurd (none-from 35 9 _ (c .match .rest) (line .1 .1) (omega (arith, line .0 .known)))
+    absurd (none-from 35 9 _ (c .match .rest) (line .1 .1 .0) (omega (arith, line .1 .1 .1)))
 
 pub subtyping-instance-spec : {M : Type 1} → statement M
 subtyping-instance-spec =

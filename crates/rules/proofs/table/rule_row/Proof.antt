@@ -1,46 +1,34 @@
--- The table is the definition's at each of the nine reads.
-use mathlib.Core.Path.{refl}
-use Rattle.rules.specs.RuleTable.{ruleTable}
 use Rattle.rules.proofs.RuleTableEntries.{row-is}
 use borrow.Author.Needs.{needs}
 use Rattle.rules.proofs.table.rule_row.Statement.{statement}
 use Rattle.rules.proofs.table.rule_row.Tie as tie
 
 table-at-requires : tie.Need-table-at-requires
-unfolding ruleTable
-table-at-requires c κs = (refl, search needs)
+table-at-requires c κs = search needs
 
 table-at-requires-2 : tie.Need-table-at-requires-2
-unfolding ruleTable
-table-at-requires-2 c κs = (refl, search needs)
+table-at-requires-2 c κs = search needs
 
 table-at-requires-3 : tie.Need-table-at-requires-3
-unfolding ruleTable
-table-at-requires-3 c κs = (refl, search needs)
+table-at-requires-3 c κs = search needs
 
 table-at-requires-4 : tie.Need-table-at-requires-4
-unfolding ruleTable
-table-at-requires-4 c κs = (refl, search needs)
+table-at-requires-4 c κs = search needs
 
 table-at-requires-5 : tie.Need-table-at-requires-5
-unfolding ruleTable
-table-at-requires-5 c κs = (refl, search needs)
+table-at-requires-5 c κs = search needs
 
 table-at-requires-6 : tie.Need-table-at-requires-6
-unfolding ruleTable
-table-at-requires-6 c κs = (refl, search needs)
+table-at-requires-6 c κs = search needs
 
 table-at-requires-7 : tie.Need-table-at-requires-7
-unfolding ruleTable
-table-at-requires-7 c κs = (refl, search needs)
+table-at-requires-7 c κs = search needs
 
 table-at-requires-8 : tie.Need-table-at-requires-8
-unfolding ruleTable
-table-at-requires-8 c κs = (refl, search needs)
+table-at-requires-8 c κs = search needs
 
 table-at-requires-9 : tie.Need-table-at-requires-9
-unfolding ruleTable
-table-at-requires-9 c κs = (refl, search needs)
+table-at-requires-9 c κs = search needs
 
 returns : tie.Need-returns
 returns c =

@@ -13,8 +13,9 @@ is-case-requires c κs = search needs
 is-instance-requires : tie.Need-is-instance-requires
 is-instance-requires c κs =
     let start = c .before .before .before .before in
-    case-in-tables _ _ _ _ _ (start .args .p ∷ start .args .q ∷ start .args .r ∷ start .args .s ∷ []) _ (start .pre)
-    (c .before .is-case .ensures .0 (c .if1 .taken))
+    let premises = start .args .p ∷ start .args .q ∷ start .args .r ∷ start .args .s ∷ [] in
+    let case = c .before .is-case .ensures .0 (c .if1 .taken) in
+    (start .pre .0, case-in-tables _ _ _ _ _ premises _ (start .pre .1) case)
 
 returns : tie.Need-returns
 returns c = (c .before .before .before .is-case .ensures .0 (c .before .before .if1 .taken), c .before .is-instance .ensures .0 (c .if2 .taken))

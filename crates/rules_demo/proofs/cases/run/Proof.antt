@@ -1,5 +1,6 @@
 -- The case stands within the buffer, and the tables are sound.
 -- Assumes nothing.
+use native.Mathlib.Omega.{arith}
 use borrow.Author.Needs.{needs}
 use Rattle.rules_demo.proofs.cases.run.Statement.{statement}
 use Rattle.rules_demo.proofs.cases.run.Tie as tie
@@ -23,10 +24,14 @@ judgment-at-requires-4 : tie.Need-judgment-at-requires-4
 judgment-at-requires-4 c κs = search needs
 
 judgment-at-requires-5 : tie.Need-judgment-at-requires-5
-judgment-at-requires-5 c κs = search needs
+judgment-at-requires-5 c κs =
+    let start = c .before .before .before .before .before .before .before .before in
+    (start .pre .1 .1, omega arith)
 
 answer-to-requires : tie.Need-answer-to-requires
-answer-to-requires c κs = c .before .before .before .before .before .before .before .before .before .pre .0
+answer-to-requires c κs =
+    let start = c .before .before .before .before .before .before .before .before .before in
+    (start .pre .0, start .pre .1 .0)
 
 write-line-requires : tie.Need-write-line-requires
 write-line-requires c κs = search needs

@@ -6,10 +6,10 @@ use Rattle.rules_demo.proofs.cases.run_all.Statement.{statement}
 use Rattle.rules_demo.proofs.cases.run_all.Tie as tie
 
 abbrev Inv-loop : tie.InvT-loop
-Inv-loop terms t contexts n cases many number₀ number = number ≤ many
+Inv-loop table terms t contexts n cases many number₀ number = number ≤ many
 
 abbrev μ-loop : tie.MeasureT-loop
-μ-loop terms t contexts n cases many number₀ number = many - number
+μ-loop table terms t contexts n cases many number₀ number = many - number
 
 loop-holds : tie.Need-loop-holds Inv-loop μ-loop
 loop-holds c = search needs

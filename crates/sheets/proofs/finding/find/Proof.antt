@@ -16,25 +16,48 @@ enum-known-terms : tie.Need-enum-known-terms
 enum-known-terms c = search needs
 
 mul-start : tie.Need-mul-start
-mul-start c = omega (arith, accepted-laid _ _ _ _ _ _ (c .before .before .before .before .before .admit .ensures .0) (c .before .terms .given .1))
+mul-start c =
+    let read = c .before in
+    let admitted = read .before .before .before .before .admit .ensures in
+    omega (arith, accepted-laid _ _ _ _ _ _ (admitted .0) (read .terms .given .1))
 
 mul-start-2 : tie.Need-mul-start-2
-mul-start-2 c = omega (arith, accepted-laid _ _ _ _ _ _ (c .before .before .before .before .before .admit .ensures .0) (c .before .terms .given .1))
+mul-start-2 c =
+    let read = c .before in
+    let admitted = read .before .before .before .before .admit .ensures in
+    omega (arith, accepted-laid _ _ _ _ _ _ (admitted .0) (read .terms .given .1))
 
 add-start : tie.Need-add-start
-add-start c = omega (arith, accepted-laid _ _ _ _ _ _ (c .before .before .before .before .before .admit .ensures .0) (c .before .terms .given .1))
+add-start c =
+    let read = c .before in
+    let admitted = read .before .before .before .before .admit .ensures in
+    omega (arith, accepted-laid _ _ _ _ _ _ (admitted .0) (read .terms .given .1))
+
+edition-of-requires : tie.Need-edition-of-requires
+edition-of-requires c κs =
+    let read = c .before in
+    let admitted = read .before .before .before .before .admit .ensures in
+    omega (arith, accepted-laid _ _ _ _ _ _ (admitted .0) (read .terms .given .1))
 
 sub-search-lines : tie.Need-sub-search-lines
-sub-search-lines c = omega (arith, accepted-laid _ _ _ _ _ _ (c .before .before .before .before .before .admit .ensures .0) (c .before .terms .given .1))
+sub-search-lines c =
+    let read = c .before .before in
+    let admitted = read .before .before .before .before .admit .ensures in
+    omega (arith, accepted-laid _ _ _ _ _ _ (admitted .0) (read .terms .given .1))
 
 part-search-lines-start : tie.Need-part-search-lines-start
-part-search-lines-start c = omega (arith, accepted-laid _ _ _ _ _ _ (c .before .before .before .before .before .admit .ensures .0) (c .before .terms .given .1))
+part-search-lines-start c =
+    let read = c .before .before in
+    let admitted = read .before .before .before .before .admit .ensures in
+    omega (arith, accepted-laid _ _ _ _ _ _ (admitted .0) (read .terms .given .1))
 
 part-search-lines-end : tie.Need-part-search-lines-end
 part-search-lines-end c = search needs
 
 search-lines-requires : tie.Need-search-lines-requires
-search-lines-requires c κs = lines-whole _ _ _ _ _ _ (c .before .before .before .before .before .before .admit .ensures .0) (c .before .before .terms .given .1)
+search-lines-requires c κs =
+    let read = c .before .before .before in
+    lines-whole _ _ _ _ _ _ (read .before .before .before .before .admit .ensures .0) (read .terms .given .1)
 
 same-length : tie.Need-same-length
 same-length c = search needs
@@ -47,7 +70,11 @@ same-length-2 : tie.Need-same-length-2
 same-length-2 c = search needs
 
 returns-2 : tie.Need-returns-2
-returns-2 c = (find-searched _ _ _ _ _ _ (c .before .before .before .before .before .before .before .admit .ensures .0) (c .before .before .before .terms .given .1) _ _ (c .search-lines .ensures), c .before .before .before .before .before .before .before .admit .ensures .1)
+returns-2 c =
+    let read = c .before .before .before .before in
+    let admitted = read .before .before .before .before .admit .ensures in
+    let own = c .before .before .edition-of .ensures in
+    (find-searched _ _ _ _ _ _ (admitted .0) (read .terms .given .1) _ own _ (c .search-lines .ensures), admitted .1)
 
 pub find-spec : {M : Type 1} → statement M
 find-spec =
@@ -59,6 +86,7 @@ find-spec =
     mul-start
     mul-start-2
     add-start
+    edition-of-requires
     sub-search-lines
     part-search-lines-start
     part-search-lines-end

@@ -11,11 +11,12 @@ use Rattle.sheets.proofs.finding.search_lines.Statement.{statement}
 use Rattle.sheets.proofs.finding.search_lines.Tie as tie
 
 abbrev Inv-loop : tie.InvT-loop
-Inv-loop lines count wanted n₀ n =
-    Looking (λ k. hasNumbers (judgmentOf (lineOf lines k)) wanted) Line (Refused 14 0) count (searchLines lines count wanted) n
+Inv-loop edition lines count wanted n₀ n =
+    Looking (λ k. hasNumbers (judgmentOf (lineOf edition lines k)) wanted) Line (Refused 14 0) count
+    (searchLines edition lines count wanted) n
 
 abbrev μ-loop : tie.MeasureT-loop
-μ-loop lines count wanted n₀ n = count - n
+μ-loop edition lines count wanted n₀ n = count - n
 
 loop-holds : tie.Need-loop-holds Inv-loop μ-loop
 unfolding searchLines

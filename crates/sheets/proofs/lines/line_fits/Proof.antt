@@ -11,7 +11,8 @@ rule-fits-requires : tie.Need-rule-fits-requires
 rule-fits-requires c κs = search needs
 
 premise-count-requires : tie.Need-premise-count-requires
-premise-count-requires c κs = rule-known _ 0 0 0 _ (c .before .rule-fits .ensures) (c .if1 .taken)
+premise-count-requires c κs =
+    (c .before .before .before .pre, rule-known _ 0 0 0 _ (c .before .rule-fits .ensures) (c .if1 .taken))
 
 numbers-fit-requires : tie.Need-numbers-fit-requires
 numbers-fit-requires c κs = search needs

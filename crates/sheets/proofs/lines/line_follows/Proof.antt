@@ -45,7 +45,7 @@ read-line-requires : tie.Need-read-line-requires
 unfolding premisesOf
 read-line-requires c κs =
     let start = c .before .before .before in
-    let rows = start .pre in
+    let rows = start .pre .1 .1 in
     named-whole _ _ _ _ (start .args .line) (rows .0) (rows .1) (rows .2) 0 _ (omega arith) refl
 
 judgment-of-requires : tie.Need-judgment-of-requires
@@ -55,7 +55,7 @@ read-line-requires-2 : tie.Need-read-line-requires-2
 unfolding premisesOf
 read-line-requires-2 c κs =
     let start = c .before .before .before .before .before in
-    let rows = start .pre in
+    let rows = start .pre .1 .1 in
     named-whole _ _ _ _ (start .args .line) (rows .0) (rows .1) (rows .2) 1 _ (omega arith) refl
 
 judgment-of-requires-2 : tie.Need-judgment-of-requires-2
@@ -65,7 +65,7 @@ read-line-requires-3 : tie.Need-read-line-requires-3
 unfolding premisesOf
 read-line-requires-3 c κs =
     let start = c .before .before .before .before .before .before .before in
-    let rows = start .pre in
+    let rows = start .pre .1 .1 in
     named-whole _ _ _ _ (start .args .line) (rows .0) (rows .1) (rows .2) 2 _ (omega arith) refl
 
 judgment-of-requires-3 : tie.Need-judgment-of-requires-3
@@ -75,7 +75,7 @@ read-line-requires-4 : tie.Need-read-line-requires-4
 unfolding premisesOf
 read-line-requires-4 c κs =
     let start = c .before .before .before .before .before .before .before .before .before in
-    let rows = start .pre in
+    let rows = start .pre .1 .1 in
     named-whole _ _ _ _ (start .args .line) (rows .0) (rows .1) (rows .2) 3 _ (omega arith) refl
 
 judgment-of-requires-4 : tie.Need-judgment-of-requires-4
@@ -90,16 +90,20 @@ is-instance-requires c κs =
     let c3 = c .before .before .before in
     let c6 = c3 .before .before .before in
     let start = c6 .before .before .before .before .before .before in
-    let rows = start .pre in
+    let rows = start .pre .1 .1 in
     let bytes = start .args .sheet .now in
     let terms = start .args .terms in
-    line-in-tables _ _ _ _ (start .args .line) (rows .0) (rows .1) (rows .2) _ _ (part-to-end bytes (10 * terms))
-    (part-to-end bytes (10 * terms + 4 * start .args .contexts)) _ _ _ _ _
-    (c6 .before .judgment-of .ensures ∙ ap judgmentOf (c6 .before .before .read-line .ensures))
-    (c3 .before .before .judgment-of2 .ensures ∙ ap judgmentOf (c6 .read-line2 .ensures))
-    (c3 .judgment-of3 .ensures ∙ ap judgmentOf (c3 .before .read-line3 .ensures))
-    (c .before .judgment-of4 .ensures ∙ ap judgmentOf (c .before .before .read-line4 .ensures))
-    (c .judgment-of5 .ensures)
+    let own = start .pre .1 .0 in
+    let table = start .pre .0 in (
+      table,
+      line-in-tables _ _ _ _ (start .args .line) (rows .0) (rows .1) (rows .2) own _ _ (part-to-end bytes (10 * terms))
+          (part-to-end bytes (10 * terms + 4 * start .args .contexts)) _ _ _ _ _
+          (c6 .before .judgment-of .ensures ∙ ap judgmentOf (c6 .before .before .read-line .ensures))
+          (c3 .before .before .judgment-of2 .ensures ∙ ap judgmentOf (c6 .read-line2 .ensures))
+          (c3 .judgment-of3 .ensures ∙ ap judgmentOf (c3 .before .read-line3 .ensures))
+          (c .before .judgment-of4 .ensures ∙ ap judgmentOf (c .before .before .read-line4 .ensures))
+          (c .judgment-of5 .ensures),
+    )
 
 returns : tie.Need-returns
 unfolding contextsIn linesIn
@@ -108,10 +112,11 @@ returns c =
     let c3 = at .before .before .before in
     let c6 = c3 .before .before .before in
     let start = c6 .before .before .before .before .before .before in
-    let rows = start .pre in
+    let rows = start .pre .1 .1 in
     let bytes = start .args .sheet .now in
     let terms = start .args .terms in
-    line-decided _ _ _ _ (start .args .line) (rows .0) (rows .1) (rows .2) _ _ (part-to-end bytes (10 * terms))
+    let own = start .pre .1 .0 in
+    line-decided _ _ _ _ (start .args .line) (rows .0) (rows .1) (rows .2) own _ _ (part-to-end bytes (10 * terms))
     (part-to-end bytes (10 * terms + 4 * start .args .contexts)) _ _ _ _ _
     (c6 .before .judgment-of .ensures ∙ ap judgmentOf (c6 .before .before .read-line .ensures))
     (c3 .before .before .judgment-of2 .ensures ∙ ap judgmentOf (c6 .read-line2 .ensures))

@@ -9,6 +9,9 @@ line-word-requires c κs = search needs
 line-word-requires-2 : tie.Need-line-word-requires-2
 line-word-requires-2 c κs = search needs
 
+row-in-requires : tie.Need-row-in-requires
+row-in-requires c κs = search needs
+
 line-word-requires-3 : tie.Need-line-word-requires-3
 line-word-requires-3 c κs = search needs
 
@@ -43,6 +46,7 @@ read-line-spec =
     (tie.spec
     line-word-requires
     line-word-requires-2
+    row-in-requires
     line-word-requires-3
     line-word-requires-4
     line-word-requires-5

@@ -12,27 +12,35 @@ use Rattle.sheets.proofs.withdrawal.first_use.Statement.{statement}
 use Rattle.sheets.proofs.withdrawal.first_use.Tie as tie
 
 abbrev Inv-loop : tie.InvT-loop
-Inv-loop lines count n k₀ k = Looking (λ m. uses (lineOf lines m) n) (λ m. m) count count (firstUse lines count n) k
+Inv-loop edition lines count n table k₀ k =
+    Looking (λ m. uses (lineOf edition lines m) n) (λ m. m) count count (firstUse edition lines count n) k
 
 abbrev μ-loop : tie.MeasureT-loop
-μ-loop lines count n k₀ k = count - k
+μ-loop edition lines count n table k₀ k = count - k
+
+rule-table-requires : tie.Need-rule-table-requires Inv-loop μ-loop
+rule-table-requires c κs = search needs
 
 add-k : tie.Need-add-k Inv-loop μ-loop
 add-k c = search needs
 
 loop-holds : tie.Need-loop-holds Inv-loop μ-loop
-loop-holds c = uses-ahead _ _ _ (c .before .pre .1)
+loop-holds c = uses-ahead _ _ _ _ (c .before .before .pre .1)
 
 read-line-requires : tie.Need-read-line-requires Inv-loop μ-loop
 read-line-requires c κs = search needs
 
 uses-line-requires : tie.Need-uses-line-requires Inv-loop μ-loop
 unfolding lineOf
-uses-line-requires c κs = subst (λ l. IsRule (l .rule)) (sym (c .read-line .ensures)) (c .before .before .before .before .pre .2 _ (c .before .loop-test .taken))
+uses-line-requires c κs =
+    let made = c .before .before .before .before in
+    let known = made .before .before .pre .2 _ (c .before .before .loop-test .taken) in
+    (made .rule-table .ensures, subst (λ l. IsRule (l .rule)) (sym (c .read-line .ensures)) known)
 
 returns : tie.Need-returns Inv-loop μ-loop
 returns c =
-    looking-here (c .before .before .before .before .loop .inv) (c .before .before .before .loop-test .taken)
+    let c4 = c .before .before .before .before in
+    looking-here (c4 .before .loop .inv) (c4 .loop-test .taken)
     (cc (c .before .before .read-line .ensures, c .before .uses-line .ensures, c .if1 .taken))
 
 add-k-2 : tie.Need-add-k-2 Inv-loop μ-loop
@@ -43,7 +51,8 @@ loop-less c = search needs
 
 loop-again : tie.Need-loop-again Inv-loop μ-loop
 loop-again c =
-    looking-next (c .before .before .before .before .loop .inv) (c .before .before .before .loop-test .taken)
+    let c4 = c .before .before .before .before in
+    looking-next (c4 .before .loop .inv) (c4 .loop-test .taken)
     (cc (c .before .before .read-line .ensures, c .before .uses-line .ensures, c .if1 .left))
 
 returns-2 : tie.Need-returns-2 Inv-loop μ-loop
@@ -57,6 +66,7 @@ first-use-spec =
     (tie.spec
     Inv-loop
     μ-loop
+    rule-table-requires
     add-k
     loop-holds
     read-line-requires

@@ -1,10 +1,9 @@
 use Rattle.sheets.proofs.WithdrawalAnswers.{uses-told}
-use borrow.Author.Needs.{needs}
 use Rattle.sheets.proofs.withdrawal.uses_line.Statement.{statement}
 use Rattle.sheets.proofs.withdrawal.uses_line.Tie as tie
 
 premise-count-requires : tie.Need-premise-count-requires
-premise-count-requires c κs = search needs
+premise-count-requires c κs = c .pre
 
 returns : tie.Need-returns
 returns c = uses-told _ _ _ (c .before .before .before .before .premise-count .ensures .0)
