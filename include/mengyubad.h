@@ -1,6 +1,6 @@
 /*
- * Mengyubad: admission of derivation sheets, finding and withdrawal of a line, marking of normal terms, day numbers and
- * reading windows.
+ * Mengyubad: admission of derivation sheets, finding and withdrawal of a line, withdrawal of a set of lines, marking of
+ * normal terms, day numbers and reading windows.
  *
  * Link libmengyubad.a (`rt staticlib mengyubad` writes it to target/staticlib; x86-64). What each function answers and
  * leaves in the buffers is proved: the contracts stand in crates/mengyubad/src/lib.rt, and the comments here say them
@@ -13,14 +13,15 @@
  * Stack: terms are walked by recursion, at most 3,072 levels deep. Measured on admission, which the other functions on
  * sheets begin with, by tests/c/stack.c: a level takes 240 bytes where a term is substituted in and fewer where it is
  * raised, and the rest 12.7 KB, so that 3,072 levels take 750 KB. The deepest walk of a sheet that it builds, some
- * 2,030 levels, takes 452 KB. A normal term of 3,072 levels is marked in 642 KB, measured there too. The two functions
- * on dates walk no terms and need little stack.
+ * 2,030 levels, takes 452 KB. Withdrawal, of a line or of a set, takes 5 KB more, 755 KB at 3,072 levels. A normal term
+ * of 3,072 levels is marked in 642 KB, measured there too. The two functions on dates walk no terms and need little
+ * stack.
  *
  * Every function returns 0, or the number of a refusal, and sets all three words of `values`:
- *   0       mengyubad_admit: T, C, L; mengyubad_find: the line, 0, 0; mengyubad_withdraw: the new length, 0, 0;
- *           mengyubad_normal: 1 for yes or 0 for no, 0, 0; mengyubad_day_number: the day number, 0, 0;
- *           mengyubad_window: 1 for open or 0 for closed, 0, 0
- *   1 to 17 the place, 0, 0
+ *   0       mengyubad_admit: T, C, L; mengyubad_find: the line, 0, 0; mengyubad_withdraw, mengyubad_withdraw_set: the
+ *           new length, 0, 0; mengyubad_normal: 1 for yes or 0 for no, 0, 0; mengyubad_day_number: the day number,
+ *           0, 0; mengyubad_window: 1 for open or 0 for closed, 0, 0
+ *   1 to 18 the place, 0, 0
  *
  * The work buffer takes the sizes of the terms, one word each; MENGYUBAD_MOST_TERMS words serve every sheet. What it
  * held does not matter. Afterwards:
@@ -63,13 +64,16 @@ enum mengyubad_number {
                                        (rules 44 to 67) outside context 0, unused field, or a premise not earlier:
                                        the line */
     MENGYUBAD_NO_INSTANCE = 10,     /* line is no instance of its rule: the line */
-    MENGYUBAD_NO_LINE = 11,         /* withdrawal, no such line: the number given */
-    MENGYUBAD_LINE_USED = 12,       /* withdrawal, a later line uses it as a premise: the lowest such line */
+    MENGYUBAD_NO_LINE = 11,         /* withdrawal, no such line: the number given, of a set the highest */
+    MENGYUBAD_LINE_USED = 12,       /* withdrawal, a later line uses it as a premise: the lowest such line; of a set,
+                                       the highest listed line that an unlisted one uses: the lowest such unlisted
+                                       line */
     MENGYUBAD_OUT_SHORT = 13,       /* withdrawal, output under the new length: 0 */
     MENGYUBAD_NOT_FOUND = 14,       /* finding, no line has those five numbers: 0 */
     MENGYUBAD_NO_DATE = 15,         /* a date that does not exist, or outside 1970 to 2199: 0 */
     MENGYUBAD_NO_DAYS = 16,         /* a window whose last date is before its first: 0 */
-    MENGYUBAD_NO_TERM = 17          /* a term number not below T: the term number */
+    MENGYUBAD_NO_TERM = 17,         /* a term number not below T: the term number */
+    MENGYUBAD_NOT_RISING = 18       /* withdrawal of a set, a list of lines that does not rise strictly: 0 */
 };
 
 /* Admits a sheet. Returns 0 or 1 to 10. */
@@ -90,6 +94,17 @@ size_t mengyubad_find(const uint8_t *sheet, size_t sheet_length, uint32_t *work,
  */
 size_t mengyubad_withdraw(const uint8_t *sheet, size_t sheet_length, size_t line, uint32_t *work, size_t work_words,
                           uint8_t *out, size_t out_length, size_t values[3]);
+
+/*
+ * Admits a sheet, then writes it to `out` without the `count` lines that are listed, whose numbers rise strictly. It is
+ * what single withdrawals give from the highest number down, each with room enough: a premise is lowered by the number
+ * of listed lines below it, the count of lines by `count`, the distances accordingly; the edition stays. An empty list
+ * gives the sheet itself. Returns 0, 1 to 10, then 18, 11, 12 or 13, the first of these: 12 has its place in the old
+ * numbering, and 13 is measured against the length without all of the lines, which is 20 * count below the old one.
+ * Bytes of `out` beyond the new length are as they were, and on any refusal so is all of `out`.
+ */
+size_t mengyubad_withdraw_set(const uint8_t *sheet, size_t sheet_length, const size_t *lines, size_t count,
+                              uint32_t *work, size_t work_words, uint8_t *out, size_t out_length, size_t values[3]);
 
 /*
  * Admits a sheet, then says whether the term with number `term` is normal. Lambda, pair, Pi, Sigma, succ, universe, Nat

@@ -26,7 +26,7 @@ fn outcome(
 pub fn alike(
     checker: &mut Checker,
     sheet: &[u8],
-    call: Call,
+    call: &Call,
     words: usize,
     room: usize,
 ) -> Result<Outcome, String> {
@@ -40,12 +40,12 @@ pub fn alike(
     Ok(one)
 }
 
-/// Panics unless both sides accept the input with equal answers and buffers.
+/// Panics unless both sides answer the input alike, buffers included, and with the number that it names.
 pub fn assert_agree(input: &Input, checker: &mut Checker) {
     let (sheet, name) = (&input.sheet, &input.name);
-    let (answer, ..) = alike(checker, sheet, input.call, 3080, sheet.len())
+    let (answer, ..) = alike(checker, sheet, &input.call, 3080, sheet.len())
         .unwrap_or_else(|difference| panic!("{name}: {difference}"));
-    assert_eq!(answer.number, 0, "{name}: refused {answer:?}");
+    assert_eq!(answer.number, input.number, "{name}: {answer:?}");
 }
 
 /// The answer of both sides to a question on dates; as text how they differ, if they do.

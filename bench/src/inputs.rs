@@ -6,28 +6,29 @@ use mengyubad::Answer;
 use std::cmp::Reverse;
 
 /// What is asked of a sheet.
-#[derive(Clone, Copy)]
 pub enum Call {
     Admit,
     Find([u32; 5]),
     Withdraw(usize),
+    WithdrawSet(Vec<usize>),
     Normal(usize),
 }
 
 impl Call {
     /// Asks the proved library.
-    pub fn proved(self, sheet: &[u8], work: &mut [u32], out: &mut [u8]) -> Answer {
+    pub fn proved(&self, sheet: &[u8], work: &mut [u32], out: &mut [u8]) -> Answer {
         match self {
             Call::Admit => mengyubad::admit(sheet, work),
-            Call::Find(wanted) => mengyubad::find(sheet, work, wanted),
-            Call::Withdraw(n) => mengyubad::withdraw(sheet, n, work, out),
-            Call::Normal(term) => mengyubad::normal(sheet, term, work),
+            Call::Find(wanted) => mengyubad::find(sheet, work, *wanted),
+            Call::Withdraw(n) => mengyubad::withdraw(sheet, *n, work, out),
+            Call::WithdrawSet(list) => mengyubad::withdraw_set(sheet, list, work, out),
+            Call::Normal(term) => mengyubad::normal(sheet, *term, work),
         }
     }
 
     /// Asks the tuned checker.
     pub fn tuned(
-        self,
+        &self,
         checker: &mut Checker,
         sheet: &[u8],
         work: &mut [u32],
@@ -35,9 +36,10 @@ impl Call {
     ) -> Answer {
         match self {
             Call::Admit => checker.admit(sheet, work),
-            Call::Find(wanted) => checker.find(sheet, work, wanted),
-            Call::Withdraw(n) => checker.withdraw(sheet, n, work, out),
-            Call::Normal(term) => checker.normal(sheet, term, work),
+            Call::Find(wanted) => checker.find(sheet, work, *wanted),
+            Call::Withdraw(n) => checker.withdraw(sheet, *n, work, out),
+            Call::WithdrawSet(list) => checker.withdraw_set(sheet, list, work, out),
+            Call::Normal(term) => checker.normal(sheet, *term, work),
         }
     }
 }
@@ -46,6 +48,8 @@ pub struct Input {
     pub name: String,
     pub sheet: Vec<u8>,
     pub call: Call,
+    /// The number that is answered.
+    pub number: usize,
 }
 
 /// Inputs that differ in one size.
@@ -60,6 +64,7 @@ fn admit(name: &str, sheet: Vec<u8>) -> Input {
         name: format!("admit {name}"),
         sheet,
         call: Call::Admit,
+        number: 0,
     }
 }
 
@@ -93,12 +98,56 @@ impl Input {
             name: self.name.replacen("admit", word, 1),
             sheet: self.sheet.clone(),
             call,
+            number: 0,
         }
     }
 
     /// The question whether the normal term with the most nodes is normal.
     fn normal(&self) -> Input {
         self.with("normal in", Call::Normal(largest_normal(&self.sheet)))
+    }
+
+    /// A set of so many lines that no other line cites: from the last line down those that can be in it, but for each
+    /// fourth of them, so that there are gaps.
+    fn closed(&self, count: usize) -> Vec<usize> {
+        let [_, _, lines] = self.counts();
+        let end = self.sheet.len() - 16;
+        let rows = self.sheet[end - 20 * lines..end].chunks_exact(20);
+        let mut needed = vec![false; lines];
+        let (mut set, mut free) = (Vec::new(), 0);
+        for (line, row) in rows.enumerate().rev() {
+            free += usize::from(!needed[line]);
+            if !needed[line] && free % 4 > 0 && set.len() < count {
+                set.push(line);
+                continue;
+            }
+            for premise in row[12..].chunks_exact(2) {
+                needed[usize::from(u16::from_le_bytes([premise[0], premise[1]]))] = true;
+            }
+        }
+        set.reverse();
+        set
+    }
+
+    /// Withdrawals of sets: the last line, a hundred lines, all lines but the first; and every other line, which is
+    /// refused.
+    fn sets(&self) -> [Input; 4] {
+        let [_, _, lines] = self.counts();
+        let set = |list: Vec<usize>| {
+            let word = format!("withdraw set of {} from", list.len());
+            self.with(&word, Call::WithdrawSet(list))
+        };
+        let every_other = Call::WithdrawSet((0..lines).step_by(2).collect());
+        let refused = Input {
+            number: 12,
+            ..self.with("withdraw set refused with 12 from", every_other)
+        };
+        [
+            set(vec![lines - 1]),
+            set(self.closed(100)),
+            set((1..lines).collect()),
+            refused,
+        ]
     }
 
     /// The admission, a search for the last line's judgment, the withdrawal of the last line, and `normal`.
@@ -122,7 +171,9 @@ pub fn single() -> Vec<Input> {
     let full = admit("full", sheets::plausible(3072, 256, 1024));
     let mut all = vec![admit("S", sheets::sample())];
     all.extend(typical.all_calls());
+    let sets = full.sets();
     all.extend(full.all_calls());
+    all.extend(sets);
     all.push(admit("equal heads", sheets::equal_heads(3072, 256, 1024)));
     all.push(admit("one bucket", sheets::one_bucket()));
     all.push(admit("deep context", sheets::deep_context(252)));

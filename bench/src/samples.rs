@@ -1,4 +1,5 @@
-//! Tests: the sample sheets and their terms with their known answers, and damaged sheets, on both sides.
+//! Tests: the sample sheets and their terms with their known answers, sets of their lines, and damaged sheets, on both
+//! sides.
 
 use crate::agree;
 use crate::inputs::Call;
@@ -50,12 +51,14 @@ fn samples() -> Vec<Vec<u8>> {
         .collect()
 }
 
-/// The parts of the list of answers, in their order: on sheets and their lines, on dates, on terms, on the bundle.
+/// The parts of the list of answers, in their order: on sheets and their lines, on dates, on terms, on the bundle, on
+/// sets of lines.
 pub enum Part {
     Sheets,
     Dates,
     Terms,
     Bundle,
+    Sets,
 }
 
 /// The lines of a part. Dates have hyphens; names of sheets have none, and those of the bundle no ending.
@@ -66,15 +69,18 @@ pub fn listed(part: Part) -> Vec<String> {
     let first = lines.iter().position(on_date).expect("a date");
     let behind = 1 + lines.iter().rposition(on_date).expect("a date");
     let on_file = |line: &String| line.contains(".sheet ");
-    let bundle = 1 + lines
-        .iter()
-        .rposition(on_file)
-        .expect("a sheet of its own file");
+    let after = |start: usize, is_next: &dyn Fn(&String) -> bool| {
+        let next = lines[start..].iter().position(is_next);
+        start + next.expect("a line of the next part")
+    };
+    let bundle = after(behind, &|line| !on_file(line));
+    let sets = after(bundle, &on_file);
     match part {
         Part::Sheets => lines[..first].to_vec(),
         Part::Dates => lines[first..behind].to_vec(),
         Part::Terms => lines[behind..bundle].to_vec(),
-        Part::Bundle => lines[bundle..].to_vec(),
+        Part::Bundle => lines[bundle..sets].to_vec(),
+        Part::Sets => lines[sets..].to_vec(),
     }
 }
 
@@ -92,7 +98,7 @@ pub fn printed(answer: Answer, values: usize) -> String {
 fn alike(
     checker: &mut Checker,
     sheet: &[u8],
-    call: Call,
+    call: &Call,
     words: usize,
     room: usize,
 ) -> (Answer, Vec<u8>) {
@@ -144,7 +150,7 @@ fn samples_are_answered_as_listed() {
             .skip(1)
             .map(|w| w.parse().expect("a number"));
         let (call, values, room) = asked(&numbers.collect::<Vec<usize>>());
-        let (answer, out) = alike(&mut checker, &sheet, call, 3072, room);
+        let (answer, out) = alike(&mut checker, &sheet, &call, 3072, room);
         assert_eq!(printed(answer, values), words[at..].join(" "), "{line}");
         if let (Call::Withdraw(_), 0) = (call, answer.number) {
             written = out[..answer.values[0]].to_vec();
@@ -161,7 +167,7 @@ fn terms_are_answered_as_listed() {
     for line in lines {
         let words: Vec<&str> = line.split(' ').collect();
         let call = Call::Normal(words[1].parse().expect("a number"));
-        let said = match alike(&mut checker, &sample(words[0]), call, 3072, 0).0 {
+        let said = match alike(&mut checker, &sample(words[0]), &call, 3072, 0).0 {
             Answer { number: 0, values } => ["no", "yes"][values[0]].to_string(),
             refusal => printed(refusal, 1),
         };
@@ -176,8 +182,57 @@ fn the_bundle_is_answered_as_listed() {
     let (lines, sheets) = (listed(Part::Bundle), bundled());
     assert_eq!(lines.len(), sheets.len());
     for (line, (name, sheet)) in lines.iter().zip(sheets) {
-        let (answer, _) = alike(&mut checker, &sheet, Call::Admit, 3072, 0);
+        let (answer, _) = alike(&mut checker, &sheet, &Call::Admit, 3072, 0);
         assert_eq!(*line, format!("{name} {}", printed(answer, 3)));
+    }
+}
+
+/// A line of the list is a sheet, the output's length, the lines and the answer; behind it, if a sheet is left, is the
+/// answer to that, and that it is the one expected.
+#[test]
+fn sets_are_answered_as_listed() {
+    let mut checker = Checker::new();
+    let results = sample("withdraw_set.results");
+    let (mut expected, mut left) = (&results[..], Vec::new());
+    for line in listed(Part::Sets) {
+        let words: Vec<&str> = line.split(' ').collect();
+        match words[0] {
+            "as" => {
+                let (result, behind) = expected.split_at(left.len());
+                assert_eq!(left, result);
+                expected = behind;
+            }
+            "ok" => {
+                let (answer, _) = alike(&mut checker, &left, &Call::Admit, 3072, 0);
+                assert_eq!(printed(answer, 3), line);
+            }
+            _ => left = set_as_listed(&mut checker, &words),
+        }
+    }
+    assert!(expected.is_empty());
+}
+
+/// The sheet that is left, if the answer is the one listed; nothing if it is a refusal.
+fn set_as_listed(checker: &mut Checker, words: &[&str]) -> Vec<u8> {
+    let (question, answer) = words.split_at(words.len() - answer_length(words));
+    let numbers = question[1..].iter().map(|w| w.parse().expect("a number"));
+    let numbers: Vec<usize> = numbers.collect();
+    let call = Call::WithdrawSet(numbers[1..].to_vec());
+    let room = numbers[0].min(52240);
+    let (given, out) = alike(checker, &sample(words[0]), &call, 3072, room);
+    assert_eq!(printed(given, 1), answer.join(" "), "{words:?}");
+    match given.number {
+        0 => out[..given.values[0]].to_vec(),
+        _ => Vec::new(),
+    }
+}
+
+/// `ok` has one number behind it, `refused` two.
+fn answer_length(words: &[&str]) -> usize {
+    if words.contains(&"ok") {
+        2
+    } else {
+        3
     }
 }
 
@@ -186,6 +241,7 @@ fn lines_and_terms_of_the_samples_are_answered_alike() {
     let mut checker = Checker::new();
     for sheet in samples() {
         lines_are_alike(&mut checker, &sheet);
+        sets_are_alike(&mut checker, &sheet);
         terms_are_alike(&mut checker, &sheet);
     }
 }
@@ -193,7 +249,7 @@ fn lines_and_terms_of_the_samples_are_answered_alike() {
 fn lines_are_alike(checker: &mut Checker, sheet: &[u8]) {
     let (terms, lines) = stated(sheet);
     let length = sheet.len();
-    let mut alike = |call, words, room| alike(checker, sheet, call, words, room);
+    let mut alike = |call, words, room| alike(checker, sheet, &call, words, room);
     alike(Call::Admit, terms, 0);
     alike(Call::Admit, terms.saturating_sub(1), 0);
     // Some dozens of lines of a full sheet, which are all equal, the last among them, and two that are none.
@@ -206,14 +262,35 @@ fn lines_are_alike(checker: &mut Checker, sheet: &[u8]) {
     }
 }
 
+/// All lines from one on, some of them, and these with any number behind them.
+fn sets_are_alike(checker: &mut Checker, sheet: &[u8]) {
+    let (terms, lines) = stated(sheet);
+    let mut random = Random::new(lines as u64);
+    let step = 1 + lines * terms / 100_000;
+    for first in (0..=lines).rev().step_by(step) {
+        let mut list: Vec<usize> = (first..lines).collect();
+        let length = sheet.len().saturating_sub(20 * list.len());
+        let mut alike = |list: &[usize], room| {
+            let call = Call::WithdrawSet(list.to_vec());
+            alike(checker, sheet, &call, terms, room);
+        };
+        alike(&list, length);
+        alike(&list, length.saturating_sub(1));
+        list.retain(|_| random.below(4) > 0);
+        alike(&list, sheet.len());
+        list.push(random.below(lines + 2));
+        alike(&list, sheet.len());
+    }
+}
+
 /// All terms of a small table and some of a large one, the last among them; then none.
 fn terms_are_alike(checker: &mut Checker, sheet: &[u8]) {
     let (terms, _) = stated(sheet);
     let asked = (0..terms).rev().step_by(1 + terms / 300);
     for term in asked.chain([terms]) {
-        alike(checker, sheet, Call::Normal(term), terms, 0);
+        alike(checker, sheet, &Call::Normal(term), terms, 0);
     }
-    alike(checker, sheet, Call::Normal(0), terms.saturating_sub(1), 0);
+    alike(checker, sheet, &Call::Normal(0), terms.saturating_sub(1), 0);
 }
 
 /// Changes one word of a sheet: by one, to a small number, or to that of another place.
@@ -243,16 +320,17 @@ fn damaged_sheets_are_answered_alike() {
     all.push(sheets::induction_steps(4, 0, 400));
     all.push(sheets::normalisation(0, 200));
     let mut checker = Checker::new();
-    let mut answered = [0; 18];
+    let mut answered = [0; 19];
     for round in 0..40_000 {
         let sheet = damaged(&all[round % all.len()], &mut random);
-        let call = match random.below(2) {
+        let call = match random.below(3) {
             0 => Call::Withdraw(random.below(30)),
+            1 => Call::WithdrawSet(vec![random.below(30), random.below(60)]),
             _ => Call::Normal(random.below(30)),
         };
-        let (answer, _) = alike(&mut checker, &sheet, call, 3072, sheet.len());
+        let (answer, _) = alike(&mut checker, &sheet, &call, 3072, sheet.len());
         answered[answer.number] += 1;
     }
-    let expected = [0, 2, 3, 5, 6, 8, 9, 10, 11, 12, 17];
+    let expected = [0, 2, 3, 5, 6, 8, 9, 10, 11, 12, 17, 18];
     assert!(expected.iter().all(|&n| answered[n] > 0), "{answered:?}");
 }

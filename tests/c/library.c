@@ -1,7 +1,7 @@
 /*
- * Calls the library from C: admits S, finds a judgment, withdraws lines, marks normal terms, numbers days and asks
- * windows. Prints nothing if all is as document 01 says, and for dates, normal terms and editions document 02, A1, A2
- * and A5.
+ * Calls the library from C: admits S, finds a judgment, withdraws a line and sets of lines, marks normal terms, numbers
+ * days and asks windows. Prints nothing if all is as document 01 says, and for dates, normal terms, editions and sets
+ * of lines document 02, A1, A2, A5 and A6.
  */
 #include <inttypes.h>
 #include <stdio.h>
@@ -134,6 +134,111 @@ static void withdraws(const uint8_t *s)
     expect_same("S without line 4", out, m9, M9_BYTES);
     expect_same("output beyond", out + M9_BYTES, untouched, S_BYTES - M9_BYTES);
     expect("the new sheet", mengyubad_admit(out, M9_BYTES, work, WORDS, values), values, MENGYUBAD_OK, 5, 1, 4);
+}
+
+/* S less its last lines is S with fewer lines. A list of no lines has a pointer all the same. */
+static void withdraws_last_lines(const uint8_t *s)
+{
+    static const size_t all[] = {0, 1, 2, 3, 4};
+    for (size_t count = 0; count <= 5; count++) {
+        uint32_t work[WORDS];
+        uint8_t out[S_BYTES + 1], wanted[S_BYTES + 1];
+        size_t values[3] = {9, 9, 9};
+        const size_t new_length = S_BYTES - 20 * count;
+        memcpy(work, poison, sizeof work);
+        memset(out, 0xA5, sizeof out);
+        memset(wanted, 0xA5, sizeof wanted);
+        char what[32];
+        snprintf(what, sizeof what, "the last %zu lines", count);
+        const size_t *last = all + 5 - count;
+        size_t number = mengyubad_withdraw_set(s, S_BYTES, last, count, work, 5, out, new_length - 1, values);
+        expect(what, number, values, MENGYUBAD_OUT_SHORT, 0, 0, 0);
+        expect_same(what, out, wanted, sizeof out);
+        expect_same(what, work, sizes, sizeof work);
+        number = mengyubad_withdraw_set(s, S_BYTES, last, count, work, 5, out, new_length, values);
+        expect(what, number, values, MENGYUBAD_OK, new_length, 0, 0);
+        expect_length(what, sample(wanted, (unsigned)(5 - count)), new_length);
+        expect_same(what, out, wanted, sizeof out);
+        expect_same(what, work, sizes, sizeof work);
+    }
+}
+
+/* A sheet of edition 2 over the terms Nat, U_0 and zero and the context (Nat), with so many lines. */
+static size_t over_nat(uint8_t *sheet, const unsigned (*lines)[10], unsigned count)
+{
+    static const unsigned rows[] = {10, 0, 0, 0, 0, 2, 0, 0, 0, 0, 11, 0, 0, 0, 0, 0, 0};
+    uint8_t *at = sheet;
+    for (size_t i = 0; i < sizeof rows / sizeof *rows; i++)
+        put_word(&at, rows[i]);
+    for (size_t i = 0; i < 10 * (size_t)count; i++)
+        put_word(&at, lines[i / 10][i % 10]);
+    put_trailer(&at, 3, 1, count, 2);
+    return (size_t)(at - sheet);
+}
+
+/* Lines 3 and 5 rest on line 1, the others on line 0. Without the former, line 2 is 1 and line 4, which cites it, 2. */
+static void lowers_premises(void)
+{
+    enum { OLD_BYTES = 170, NEW_BYTES = 110 };
+    static const unsigned lines[6][10] = {
+        {0, 1, 0, 0, 0, 0, 0, 0, 0, 0},
+        {0, 1, 0, 0, 0, 0, 0, 0, 0, 0},
+        {1, 12, 0, 0, 0, 1, 0, 0, 0, 0},
+        {1, 13, 0, 2, 0, 0, 1, 0, 0, 0},
+        {0, 2, 1, 0, 0, 0, 0, 2, 0, 0},
+        {1, 12, 0, 0, 0, 1, 1, 0, 0, 0}
+    };
+    static const unsigned kept[3][10] = {
+        {0, 1, 0, 0, 0, 0, 0, 0, 0, 0},
+        {1, 12, 0, 0, 0, 1, 0, 0, 0, 0},
+        {0, 2, 1, 0, 0, 0, 0, 1, 0, 0}
+    };
+    static const size_t set[] = {1, 3, 5};
+    uint8_t sheet[OLD_BYTES], wanted[NEW_BYTES], out[NEW_BYTES];
+    uint32_t work[3];
+    size_t values[3] = {9, 9, 9};
+    expect_length("six lines", over_nat(sheet, lines, 6), OLD_BYTES);
+    expect_length("three lines", over_nat(wanted, kept, 3), NEW_BYTES);
+    const size_t number = mengyubad_withdraw_set(sheet, OLD_BYTES, set, 3, work, 3, out, NEW_BYTES, values);
+    expect("lines 1, 3 and 5", number, values, MENGYUBAD_OK, NEW_BYTES, 0, 0);
+    expect_same("without lines 1, 3 and 5", out, wanted, sizeof out);
+}
+
+/* Sets that S does not give up. */
+static void refuses_sets(const uint8_t *s)
+{
+    static const struct {
+        const char *what;
+        size_t length, words, lines[3], count, room, number, place;
+        const uint32_t *left;
+    } cases[] = {
+        {"equal lines", S_BYTES, WORDS, {4, 4}, 2, S_BYTES, MENGYUBAD_NOT_RISING, 0, sizes},
+        {"falling lines", S_BYTES, 5, {4, 3}, 2, S_BYTES, MENGYUBAD_NOT_RISING, 0, sizes},
+        {"falling behind", S_BYTES, 5, {2, 9, 3}, 3, 0, MENGYUBAD_NOT_RISING, 0, sizes},
+        {"equal and none", S_BYTES, WORDS, {SIZE_MAX, SIZE_MAX}, 2, 0, MENGYUBAD_NOT_RISING, 0, sizes},
+        {"falling, 15 bytes", 15, WORDS, {4, 3}, 2, S_BYTES, MENGYUBAD_LENGTH, 0, poison},
+        {"falling, 4 words", S_BYTES, 4, {4, 3}, 2, S_BYTES, MENGYUBAD_WORK_SHORT, 0, poison},
+        {"lines 4 and 5", S_BYTES, WORDS, {4, 5}, 2, S_BYTES, MENGYUBAD_NO_LINE, 5, sizes},
+        {"lines 2, 5 and 9", S_BYTES, 5, {2, 5, 9}, 3, 0, MENGYUBAD_NO_LINE, 9, sizes},
+        {"greatest number", S_BYTES, WORDS, {4, 65536, SIZE_MAX}, 3, S_BYTES, MENGYUBAD_NO_LINE, SIZE_MAX, sizes},
+        {"lines 2 and 4", S_BYTES, WORDS, {2, 4}, 2, S_BYTES, MENGYUBAD_LINE_USED, 3, sizes},
+        {"lines 0, 2 and 3", S_BYTES, 5, {0, 2, 3}, 3, 0, MENGYUBAD_LINE_USED, 4, sizes},
+        {"lines 0 and 1", S_BYTES, 5, {0, 1}, 2, 0, MENGYUBAD_LINE_USED, 2, sizes},
+        {"no room for none", S_BYTES, 5, {0}, 0, S_BYTES - 1, MENGYUBAD_OUT_SHORT, 0, sizes}
+    };
+    for (size_t i = 0; i < sizeof cases / sizeof *cases; i++) {
+        uint32_t work[WORDS];
+        uint8_t out[S_BYTES], untouched[S_BYTES];
+        size_t values[3] = {9, 9, 9};
+        memcpy(work, poison, sizeof work);
+        memset(out, 0xA5, sizeof out);
+        memset(untouched, 0xA5, sizeof untouched);
+        const size_t number = mengyubad_withdraw_set(s, cases[i].length, cases[i].lines, cases[i].count, work,
+                                                     cases[i].words, out, cases[i].room, values);
+        expect(cases[i].what, number, values, cases[i].number, cases[i].place, 0, 0);
+        expect_same(cases[i].what, work, cases[i].left, sizeof work);
+        expect_same(cases[i].what, out, untouched, sizeof out);
+    }
 }
 
 /* Every term of S is normal. */
@@ -285,6 +390,9 @@ int main(void)
     admits_editions();
     finds(s);
     withdraws(s);
+    withdraws_last_lines(s);
+    lowers_premises();
+    refuses_sets(s);
     marks_normal(s);
     marks_normal_alone();
     numbers_days();

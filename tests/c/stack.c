@@ -1,7 +1,7 @@
 /*
- * Measures the stack that admission and the marking of a normal term take, on a stack of its own that is painted before
- * each call. With no argument it prints nothing, and it fails if the header's figure does not cover 3,072 levels; with
- * one it prints what it measured.
+ * Measures the stack that admission, the withdrawal of a set of lines and the marking of a normal term take, on a stack
+ * of its own that is painted before each call. With no argument it prints nothing, and it fails if the header's figure
+ * does not cover 3,072 levels; with one it prints what it measured.
  *
  * Terms are walked by recursion. Each level of a typed term has a line of its own, so that the lines of a sheet allow a
  * term of some thousand levels. Two sheets are built over c, which is succ^n of a variable: E-APPABS substitutes in c
@@ -150,6 +150,19 @@ static void admit(void)
     succeeded = mengyubad_admit(sheet, length, work, MENGYUBAD_MOST_TERMS, values) == MENGYUBAD_OK;
 }
 
+/* Withdraws all lines. */
+static void withdraw(void)
+{
+    static size_t all[1024];
+    static uint8_t out[MENGYUBAD_MOST_BYTES];
+    size_t values[3];
+    for (size_t i = 0; i < lines; i++)
+        all[i] = i;
+    const size_t number = mengyubad_withdraw_set(sheet, length, all, lines, work, MENGYUBAD_MOST_TERMS, out,
+                                                 sizeof out, values);
+    succeeded = number == MENGYUBAD_OK && values[0] == length - 20 * (size_t)lines;
+}
+
 /* Asks for the last term. */
 static void mark(void)
 {
@@ -180,16 +193,16 @@ static size_t greater(size_t a, size_t b)
     return a > b ? a : b;
 }
 
-/* What admission takes at 3,072 levels; 0 if a sheet is not admitted, or takes no stack. */
-static size_t admission(int told)
+/* What a call that begins with admission takes at 3,072 levels; 0 if it does not succeed, or takes no stack. */
+static size_t admission(const char *what, void (*call)(void), int told)
 {
-    const size_t flat = taken(admit, build_application, 0), once = taken(admit, build_application, LEVELS);
-    const size_t twice = taken(admit, build_induction, LEVELS);
+    const size_t flat = taken(call, build_application, 0), once = taken(call, build_application, LEVELS);
+    const size_t twice = taken(call, build_induction, LEVELS);
     if (flat == 0 || once <= flat || twice <= once)
         return 0;
     const size_t whole = flat + greater(once - flat, twice - once) * MOST_LEVELS / LEVELS;
     if (told)
-        printf("admission: no level %zu, %d levels %zu, twice as many %zu, so %d levels %zu bytes\n", flat, LEVELS,
+        printf("%s: no level %zu, %d levels %zu, twice as many %zu, so %d levels %zu bytes\n", what, flat, LEVELS,
                once, twice, MOST_LEVELS, whole);
     return whole;
 }
@@ -217,6 +230,8 @@ int main(int argc, char **argv)
 {
     (void)argv;
     const int told = argc > 1;
-    const int admitted = is_covered("admission", admission(told)), marked = is_covered("marking", marking(told));
-    return admitted && marked ? 0 : 1;
+    const int admitted = is_covered("admission", admission("admission", admit, told));
+    const int withdrawn = is_covered("withdrawal", admission("withdrawal", withdraw, told));
+    const int marked = is_covered("marking", marking(told));
+    return admitted && withdrawn && marked ? 0 : 1;
 }

@@ -1,5 +1,5 @@
-//! Admission, finding and withdrawal, normal terms, day numbers and windows, written for speed. The answers and the
-//! buffers are those of the proved library.
+//! Admission, finding, withdrawal of a line and of sets, normal terms, day numbers and windows, written for speed. The
+//! answers and the buffers are those of the proved library.
 
 mod contexts;
 pub mod dates;
@@ -13,6 +13,7 @@ mod memo;
 mod normalisation;
 mod normality;
 mod rows;
+mod sets;
 mod subtyping;
 mod table;
 mod typing;

@@ -41,7 +41,7 @@ fn write(sheet: &[u8], counts: Counts, line: usize, out: &mut [u8]) {
     out[at..].copy_from_slice(&sheet[at + 20..]);
     let end = counts.trailer_at() - 20;
     lower_premises(&mut out[at..end], line);
-    lower_trailer(&mut out[end..]);
+    lower_trailer(&mut out[end..], 1);
 }
 
 /// One less for each premise above `line`.
@@ -52,15 +52,15 @@ fn lower_premises(lines: &mut [u8], line: usize) {
     }
 }
 
-/// One line less, and the three distances less by its length.
-fn lower_trailer(trailer: &mut [u8]) {
-    for (j, by) in [(2, 1), (4, 20), (5, 20), (6, 20)] {
-        lower(&mut trailer[2 * j..2 * j + 2], |_| by);
+/// So many lines less, and the three distances less by their length.
+pub fn lower_trailer(trailer: &mut [u8], lines: u16) {
+    for (j, each) in [(2, 1), (4, 20), (5, 20), (6, 20)] {
+        lower(&mut trailer[2 * j..2 * j + 2], |_| each * lines);
     }
 }
 
 #[inline(always)]
-fn lower(word: &mut [u8], by: impl Fn(u16) -> u16) {
+pub fn lower(word: &mut [u8], by: impl Fn(u16) -> u16) {
     let old = u16::from_le_bytes([word[0], word[1]]);
     word.copy_from_slice(&(old - by(old)).to_le_bytes());
 }

@@ -29,6 +29,17 @@ mod c {
             out_length: usize,
             values: *mut [usize; 3],
         ) -> usize;
+        pub fn mengyubad_withdraw_set(
+            sheet: *const u8,
+            sheet_length: usize,
+            lines: *const usize,
+            count: usize,
+            work: *mut u32,
+            work_words: usize,
+            out: *mut u8,
+            out_length: usize,
+            values: *mut [usize; 3],
+        ) -> usize;
         pub fn mengyubad_normal(
             sheet: *const u8,
             sheet_length: usize,
@@ -97,6 +108,26 @@ pub fn withdraw(sheet: &[u8], line: usize, work: &mut [u32], out: &mut [u8]) -> 
             sheet.as_ptr(),
             sheet.len(),
             line,
+            work.as_mut_ptr(),
+            work.len(),
+            out.as_mut_ptr(),
+            out.len(),
+            &mut values,
+        )
+    };
+    Answer { number, values }
+}
+
+/// Writes the sheet without the listed lines, whose numbers rise strictly, to `out`: the new length.
+pub fn withdraw_set(sheet: &[u8], lines: &[usize], work: &mut [u32], out: &mut [u8]) -> Answer {
+    let mut values = [0; 3];
+    // SAFETY: as in `withdraw`; `lines` is only read.
+    let number = unsafe {
+        c::mengyubad_withdraw_set(
+            sheet.as_ptr(),
+            sheet.len(),
+            lines.as_ptr(),
+            lines.len(),
             work.as_mut_ptr(),
             work.len(),
             out.as_mut_ptr(),

@@ -1,32 +1,22 @@
 -- A length that withdrawal answers is within the output.
 -- Assumes nothing.
-use mathlib.Core.Path.{_≡_, refl, sym, subst}
+use mathlib.Core.Path.{_≡_, refl, subst}
 use mathlib.Core.List.{List}
 use Prim.Native.Nat.{ℕ, _≤_}
-use Rattle.sheets.specs.declared.admission.Admission.{Admission}
-use Rattle.sheets.specs.declared.admission.Admission.the-variants.{Accepted, Refused as notAdmitted}
 use Rattle.sheets.specs.declared.withdrawal.Withdrawal.{Withdrawal}
-use Rattle.sheets.specs.declared.withdrawal.Withdrawal.the-variants.{Written}
-use Rattle.sheets.specs.Admission.{admitOf}
-use Rattle.sheets.specs.Withdrawal.{withdrawOf, AdmittedWithdrawalMeans, missing, used, short, written}
-use Rattle.sheets.proofs.WithdrawalLaws.{withdraw-refused, withdrawn-is}
+use Rattle.sheets.specs.declared.withdrawal.Withdrawal.the-variants.{Written, Refused}
+use Rattle.sheets.specs.WithdrawalSet.{withdrawSetOf}
+use Rattle.sheets.proofs.AnsweredLaws.{set-written-fits}
 use Rattle.answers.specs.Room.{Within}
 
-module _ (bytes : List ℕ) (n work room : ℕ) where
-  on-means : {T C L : ℕ} {a : Withdrawal} → AdmittedWithdrawalMeans bytes T C L n room a → Within room a
+module _ (bytes set : List ℕ) (work room : ℕ) where
+  on-answer : (a : Withdrawal) → withdrawSetOf bytes set work room ≡ a → Within room a
   unfolding Within
-  on-means (missing h) = tt
-  on-means (used h u) = tt
-  on-means (short h u k) = tt
-  on-means (written h u k) = k
+  on-answer (Written length) e = set-written-fits bytes set work room length e
+  on-answer (Refused number place) e = tt
 
-  on-admission : (a : Admission) → admitOf bytes work ≡ a → Within room (withdrawOf bytes n work room)
-  unfolding Within
-  on-admission (notAdmitted number place) e = subst (Within room) (sym (withdraw-refused bytes n work room number place e)) tt
-  on-admission (Accepted T C L) e = on-means (withdrawn-is bytes n work room T C L e _ .0 refl)
-
-  pub answer-within : Within room (withdrawOf bytes n work room)
-  answer-within = on-admission (admitOf bytes work) refl
+  pub answer-within : Within room (withdrawSetOf bytes set work room)
+  answer-within = on-answer (withdrawSetOf bytes set work room) refl
 
 pub length-within : {room length : ℕ} {a : Withdrawal} → Within room a → a ≡ Written length → length ≤ room
 unfolding Within

@@ -13,14 +13,14 @@ use sheets::finding::Wanted;
 use sheets::finding::find;
 use sheets::normality::mark_normal;
 use sheets::withdrawal::Withdrawal;
-use sheets::withdrawal::withdraw;
+use sheets::withdrawal::withdraw_set;
 use windows::access::Window;
 ghost use mathlib.Core.Path.{_≡_};
 ghost use lib.ListN.{length};
 ghost use Rattle.io.specs.Counts.{Counts};
 ghost use Rattle.sheets.specs.Admission.{admitOf};
 ghost use Rattle.sheets.specs.Finding.{findOf};
-ghost use Rattle.sheets.specs.Withdrawal.{withdrawOf, outAfter, KeepsTheOthers};
+ghost use Rattle.sheets.specs.WithdrawalSet.{withdrawSetOf, setOutAfter, KeepsTheUnlisted};
 ghost use Rattle.sheets.specs.Normality.{normalityOf};
 ghost use Rattle.answers.specs.Text.{admissionText, foundText, withdrawalText, normalityText};
 ghost use Rattle.answers.specs.Text.{windowText, dateText, AtStart};
@@ -51,22 +51,22 @@ pub fn search_reply(sheet: &[u8], wanted: Wanted, text: &mut [u8; 80]) -> usize
     put_found(find(sheet, &mut work, wanted), text)
 }
 
-// Withdraws line `number` of a sheet likewise; the new sheet goes to `out`.
+// Withdraws a set of lines of a sheet likewise; the new sheet goes to `out`.
 pub fn withdrawal_reply(
     sheet: &[u8],
-    number: usize,
+    set: &[usize],
     out: &mut [u8],
     text: &mut [u8; 80],
 ) -> WithdrawalReply
-    ensures answer { λ r. ⌜ r .answer ≡ withdrawOf (now (sheet .entry)) number 3072 (length (now (out .entry))) ⌝ }
-    ensures written { λ _. ⌜ now (out .exit) ≡ outAfter (now (sheet .entry)) number 3072 (now (out .entry)) ⌝ }
-    ensures kept { λ r. ⌜ KeepsTheOthers (now (sheet .entry)) number (now (out .exit)) (r .answer) ⌝ }
+    ensures answer { λ r. ⌜ r .answer ≡ withdrawSetOf (now (sheet .entry)) (now (set .entry)) 3072 (length (now (out .entry))) ⌝ }
+    ensures written { λ _. ⌜ now (out .exit) ≡ setOutAfter (now (sheet .entry)) (now (set .entry)) 3072 (now (out .entry)) ⌝ }
+    ensures kept { λ r. ⌜ KeepsTheUnlisted (now (sheet .entry)) (now (set .entry)) (now (out .exit)) (r .answer) ⌝ }
     ensures within { λ r. ⌜ Within (length (now (out .entry))) (r .answer) ⌝ }
     ensures count { λ r. ⌜ Counts (r .count) (now (text .exit)) ⌝ }
     ensures text { λ r. ⌜ AtStart (withdrawalText (r .answer)) (now (text .entry)) (now (text .exit)) (r .count) ⌝ }
 {
     let mut work = [0u32; 3072];
-    let answer = withdraw(sheet, number, &mut work, out);
+    let answer = withdraw_set(sheet, set, &mut work, out);
     let count = put_withdrawal(answer, text);
     WithdrawalReply { answer, count }
 }

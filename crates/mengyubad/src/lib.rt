@@ -10,6 +10,7 @@ use sheets::normality::Normality;
 use sheets::normality::mark_normal;
 use sheets::withdrawal::Withdrawal;
 use sheets::withdrawal::withdraw;
+use sheets::withdrawal::withdraw_set;
 use windows::access::Access;
 use windows::access::Window;
 use windows::dates::Date;
@@ -19,6 +20,7 @@ ghost use lib.ListN.{length};
 ghost use Rattle.sheets.specs.Admission.{admitOf, workAfter};
 ghost use Rattle.sheets.specs.Finding.{findOf};
 ghost use Rattle.sheets.specs.Withdrawal.{withdrawOf, outAfter, KeepsTheOthers};
+ghost use Rattle.sheets.specs.WithdrawalSet.{withdrawSetOf, setOutAfter, KeepsTheUnlisted};
 ghost use Rattle.sheets.specs.Normality.{normalityOf};
 ghost use Rattle.windows.specs.Dates.{dayNumberOf};
 ghost use Rattle.windows.specs.Access.{windowOf, openOn};
@@ -184,6 +186,26 @@ pub extern "C" fn mengyubad_withdraw(
     ensures kept { λ _. ⌜ KeepsTheOthers (now (sheet .entry)) line (now (out .exit)) (withdrawOf (now (sheet .entry)) line (length (now (work .entry))) (length (now (out .entry)))) ⌝ }
 {
     give(withdrawal_reply(withdraw(sheet, line, work, out)), values)
+}
+
+// Writes a sheet without the lines of a set, whose numbers rise: the new length.
+#[no_mangle]
+pub extern "C" fn mengyubad_withdraw_set(
+    sheet: &[u8],
+    lines: &[usize],
+    work: &mut [u32],
+    out: &mut [u8],
+    values: &mut [usize; 3],
+) -> usize
+    ensures answer { λ r. ⌜ Given (withdrawalReply (withdrawSetOf (now (sheet .entry)) (now (lines .entry)) (length (now (work .entry))) (length (now (out .entry))))) r (now (values .exit)) ⌝ }
+    ensures left { λ _. ⌜ now (work .exit) ≡ workAfter (now (sheet .entry)) (now (work .entry)) ⌝ }
+    ensures written { λ _. ⌜ now (out .exit) ≡ setOutAfter (now (sheet .entry)) (now (lines .entry)) (length (now (work .entry))) (now (out .entry)) ⌝ }
+    ensures kept { λ _. ⌜ KeepsTheUnlisted (now (sheet .entry)) (now (lines .entry)) (now (out .exit)) (withdrawSetOf (now (sheet .entry)) (now (lines .entry)) (length (now (work .entry))) (length (now (out .entry)))) ⌝ }
+{
+    give(
+        withdrawal_reply(withdraw_set(sheet, lines, work, out)),
+        values,
+    )
 }
 
 // Whether a term of a sheet is normal: 1 or 0.

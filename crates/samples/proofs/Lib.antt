@@ -1,1 +1,3 @@
 pub mod TextLaws
+pub mod NumberLaws
+pub mod SameLaws

@@ -1,10 +1,14 @@
 // Runs the samples. Each line of a list names a sheet and the numbers that go with it, or dates; the program writes the
 // line and the answer. A sheet that is left after a withdrawal is admitted on a line of its own. The sheets of a bundle
-// stand one behind the other in one file, in the order of its list, where each has its length beside its name.
+// stand one behind the other in one file, in the order of its list, where each has its length beside its name. The
+// sheets that withdrawals of sets are to leave are such a bundle too, without lengths: a line says whether the one that
+// is left is the one expected.
 mod text;
 
 use crate::text::length_in;
 use crate::text::number_in;
+use crate::text::numbers_from;
+use crate::text::same;
 use answers::input::read_sheet;
 use answers::numbers::Reading;
 use answers::numbers::Request;
@@ -20,6 +24,9 @@ use answers::replies::window_reply;
 use answers::replies::withdrawal_reply;
 use libc::STDOUT_FILENO;
 use sheets::withdrawal::Withdrawal;
+ghost use Prim.Native.Nat.{_≤_};
+ghost use lib.ListN.{length};
+ghost use Rattle.io.specs.Counts.{Counts};
 
 // What is done with the sheets or the dates of a list.
 enum Task {
@@ -30,6 +37,7 @@ enum Task {
     Day,
     Normal,
     Bundled(i32),
+    WithdrawSet(i32),
 }
 
 // Admits a sheet.
@@ -59,16 +67,20 @@ fn find_numbers(sheet: &[u8], line: &[u8]) {
     }
 }
 
-// Withdraws a line of a sheet, and admits the sheet that is left.
-fn withdraw_line(sheet: &[u8], number: usize, out: &mut [u8]) {
+// Withdraws a set of lines of a sheet, and admits the sheet that is left. Answers its length, and 0 if there is none.
+fn withdraw_lines(sheet: &[u8], set: &[usize], out: &mut [u8]) -> usize
+    ensures { λ r. ⌜ Counts r (now (out .exit)) ⌝ }
+{
     let mut text = [0u8; 80];
-    let reply = withdrawal_reply(sheet, number, out, &mut text);
+    let reply = withdrawal_reply(sheet, set, out, &mut text);
     let count = reply.count;
     io::write_all(STDOUT_FILENO, &text[..count]);
     let answer = reply.answer;
     if let Withdrawal::Written { length } = answer {
         admit_whole(&out[..length]);
+        return length;
     }
+    0
 }
 
 // The same, for the line number and the output's length of a line of the list.
@@ -78,8 +90,39 @@ fn withdraw_number(sheet: &[u8], line: &[u8]) {
         return;
     };
     let room = length_in(line, 2);
+    let set = [number];
     let mut out = [0u8; 52240];
-    withdraw_line(sheet, number, &mut out[..room]);
+    withdraw_lines(sheet, &set, &mut out[..room]);
+}
+
+// Says whether a sheet is the one that comes next in a bundle, which is read into a buffer of the sheet's length.
+fn compare_next(bundle: i32, sheet: &[u8], expected: &mut [u8]) {
+    let length = io::read_full(bundle, expected);
+    if same(sheet, &expected[..length]) {
+        io::write_all(STDOUT_FILENO, b"as expected\n");
+    } else {
+        io::write_all(STDOUT_FILENO, b"not as expected\n");
+    }
+}
+
+// Withdraws a set of lines of a sheet likewise, and compares the sheet that is left.
+fn withdraw_compared(sheet: &[u8], set: &[usize], out: &mut [u8], results: i32)
+    requires { ⌜ length (now out) ≤ 52240 ⌝ }
+{
+    let length = withdraw_lines(sheet, set, out);
+    if 0 < length {
+        let mut expected = [0u8; 52240];
+        compare_next(results, &out[..length], &mut expected[..length]);
+    }
+}
+
+// The same, for the output's length of a line of the list and the line numbers behind it.
+fn withdraw_numbers(sheet: &[u8], line: &[u8], results: i32) {
+    let mut set = [0usize; 1024];
+    let count = numbers_from(line, 2, &mut set);
+    let room = length_in(line, 1);
+    let mut out = [0u8; 52240];
+    withdraw_compared(sheet, &set[..count], &mut out[..room], results);
 }
 
 // Says whether the term whose number a line of the list has is normal.
@@ -150,6 +193,7 @@ fn run_sheet(line: &[u8], task: Task) {
         Task::Find => find_numbers(&sheet[..length], line),
         Task::Withdraw => withdraw_number(&sheet[..length], line),
         Task::Normal => mark_number(&sheet[..length], line),
+        Task::WithdrawSet(results) => withdraw_numbers(&sheet[..length], line, results),
         _ => admit_whole(&sheet[..length]),
     }
 }
@@ -199,16 +243,6 @@ fn run_list(path: &[u8], task: Task) {
     run_lines(&list[..length], task);
 }
 
-// Admits the sheets of a bundle.
-fn run_bundle(path: &[u8], list: &[u8]) {
-    let bundle = open_named(path);
-    if bundle < 0 {
-        return;
-    }
-    run_list(list, Task::Bundled(bundle));
-    libc::close(bundle);
-}
-
 fn main() {
     run_list(b"admit.list", Task::Admit);
     run_list(b"find.list", Task::Find);
@@ -216,5 +250,14 @@ fn main() {
     run_list(b"window.list", Task::Window);
     run_list(b"days.list", Task::Day);
     run_list(b"normal.list", Task::Normal);
-    run_bundle(b"normalisation.sheets", b"normalisation.list");
+    let sheets = open_named(b"normalisation.sheets");
+    if 0 <= sheets {
+        run_list(b"normalisation.list", Task::Bundled(sheets));
+        libc::close(sheets);
+    }
+    let results = open_named(b"withdraw_set.results");
+    if 0 <= results {
+        run_list(b"withdraw_set.list", Task::WithdrawSet(results));
+        libc::close(results);
+    }
 }

@@ -4,9 +4,12 @@ use answers::numbers::read_number;
 use answers::parts::behind;
 use answers::parts::place_of;
 ghost use mathlib.Core.Path.{_≡_};
+ghost use mathlib.Core.Logic.{_↔_};
+ghost use mathlib.Core.Bool.{true};
 ghost use Prim.Native.Nat.{_≤_};
+ghost use Rattle.io.specs.Counts.{Counts};
 ghost use Rattle.answers.specs.Numbers.{readNumber};
-ghost use Rattle.samples.specs.Text.{wordOf, lengthOf};
+ghost use Rattle.samples.specs.Text.{wordOf, lengthOf, NumbersFrom};
 
 // The number that word `n` of a line spells, counted from 0.
 pub fn number_in(line: &[u8], n: usize) -> Reading
@@ -34,4 +37,39 @@ pub fn length_in(line: &[u8], n: usize) -> usize
         return 52240;
     }
     length
+}
+
+// Puts the numbers that the words of a line from word `first` on spell into `numbers`, up to a word that spells none or
+// the end of the buffer, and answers how many they are.
+pub fn numbers_from(line: &[u8], first: usize, numbers: &mut [usize]) -> usize
+    requires { ⌜ first ≤ 1024 ⌝ }
+    ensures value { λ r. ⌜ NumbersFrom (now (line .entry)) first (now (numbers .exit)) r ⌝ }
+    ensures count { λ r. ⌜ Counts r (now (numbers .exit)) ⌝ }
+{
+    let mut count = 0;
+    while count < numbers.len() {
+        let Reading::Number(number) = number_in(line, first + count) else {
+            return count;
+        };
+        numbers[count] = number;
+        count += 1;
+    }
+    count
+}
+
+// Are these the same bytes?
+pub fn same(a: &[u8], b: &[u8]) -> bool
+    ensures { λ r. ⌜ (r ≡ true) ↔ (now (a .entry) ≡ now (b .entry)) ⌝ }
+{
+    if a.len() != b.len() {
+        return false;
+    }
+    let mut i = 0;
+    while i < a.len() {
+        if a[i] != b[i] {
+            return false;
+        }
+        i += 1;
+    }
+    true
 }

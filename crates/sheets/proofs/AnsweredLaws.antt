@@ -1,5 +1,5 @@
--- Finding and withdrawal, for any sheet and work buffer: an answer is given exactly if it means what document 01 says,
--- and the work buffer then holds what document 01 says.
+-- Finding and withdrawal, for any sheet and work buffer: an answer is given exactly if it means what documents 01 and
+-- 02 say, and the work buffer then holds what they say.
 -- Assumes nothing.
 use mathlib.Core.Path.{_≡_, refl, sym, _∙_, subst}
 use mathlib.Core.Logic.{_↔_}
@@ -19,11 +19,15 @@ use Rattle.sheets.specs.Admission.{admitOf, workAfter}
 use Rattle.sheets.specs.Good.{Good}
 use Rattle.sheets.specs.WorkBuffer.{SizesLeft, WorkLeft}
 use Rattle.sheets.specs.Finding.{findOf}
-use Rattle.sheets.specs.Withdrawal.{withdrawOf, missing, used, short, written}
-use Rattle.sheets.specs.Answered.{FoundMeans, faulty, found, absent, WithdrawalMeans, unfit, admitted}
+use Rattle.sheets.specs.Withdrawal.{withdrawOf, AdmittedWithdrawalMeans, missing, used, short}
+use Rattle.sheets.specs.WithdrawalSet.{withdrawSetOf, AdmittedSetMeans, notRising}
+use Rattle.sheets.specs.WithdrawalSet.{beyond, cited, tooShort, withdrawn}
+use Rattle.sheets.specs.Answered.{FoundMeans, faulty, found, absent}
+use Rattle.sheets.specs.Answered.{AnswerMeans, unfit, admitted, WithdrawalMeans, SetWithdrawalMeans}
 use Rattle.sheets.proofs.AdmissionLaws.{accepted-is, refused-is, left-counted, left-wholly, fault-left}
 use Rattle.sheets.proofs.FindingLaws.{find-refused, found-is, missing-is, missing-only}
 use Rattle.sheets.proofs.WithdrawalLaws.{withdraw-refused, withdrawn-is}
+use Rattle.sheets.proofs.SetLaws.{set-refused, set-is}
 
 module _ (bytes : List ℕ) (work : ℕ) (w : Wanted) where
   on-found : (T C L : ℕ) → admitOf bytes work ≡ Accepted T C L → (a : Found) → findOf bytes work w ≡ a → FoundMeans bytes work w a
@@ -47,19 +51,43 @@ module _ (bytes : List ℕ) (work : ℕ) (w : Wanted) where
   pub find-is : (a : Found) → (findOf bytes work w ≡ a) ↔ FoundMeans bytes work w a
   find-is a = (λ e. subst (FoundMeans bytes work w) e (on-admission (admitOf bytes work) refl), back)
 
-module _ (bytes : List ℕ) (work n room : ℕ) where
-  on-withdrawal : (a : Admission) → admitOf bytes work ≡ a → WithdrawalMeans bytes work n room (withdrawOf bytes n work room)
-  on-withdrawal (notAdmitted number place) e =
-      subst (WithdrawalMeans bytes work n room) (sym (withdraw-refused bytes n work room number place e)) (unfit (refused-is bytes work number place .0 e))
-  on-withdrawal (Accepted T C L) e =
-      let g = accepted-is bytes work T C L .0 e in admitted (g .0) (g .1) (withdrawn-is bytes n work room T C L e (withdrawOf bytes n work room) .0 refl)
+-- a withdrawal of any kind, which hands on what admission refuses
+module _ (bytes : List ℕ) (work : ℕ) (Admitted : ℕ → ℕ → ℕ → Withdrawal → Type 0) (answer : Withdrawal)
+    (handed : (number place : ℕ) → admitOf bytes work ≡ notAdmitted number place → answer ≡ Refused number place)
+    (asked : (T C L : ℕ) → admitOf bytes work ≡ Accepted T C L
+    → (a : Withdrawal) → (answer ≡ a) ↔ Admitted T C L a) where
+  on-answer : (a : Admission) → admitOf bytes work ≡ a → AnswerMeans bytes work Admitted answer
+  on-answer (notAdmitted number place) e =
+      subst (AnswerMeans bytes work Admitted) (sym (handed number place e))
+      (unfit (refused-is bytes work number place .0 e))
+  on-answer (Accepted T C L) e =
+      let g = accepted-is bytes work T C L .0 e in admitted (g .0) (g .1) (asked T C L e answer .0 refl)
 
-  withdrawal-back : {a : Withdrawal} → WithdrawalMeans bytes work n room a → withdrawOf bytes n work room ≡ a
-  withdrawal-back (unfit {number} {place} f) = withdraw-refused bytes n work room number place (refused-is bytes work number place .1 f)
-  withdrawal-back (admitted {T} {C} {L} {a} g fits m) = withdrawn-is bytes n work room T C L (accepted-is bytes work T C L .1 (g, fits)) a .1 m
+  answer-back : {a : Withdrawal} → AnswerMeans bytes work Admitted a → answer ≡ a
+  answer-back (unfit {number} {place} f) = handed number place (refused-is bytes work number place .1 f)
+  answer-back (admitted {T} {C} {L} {a} g fits m) = asked T C L (accepted-is bytes work T C L .1 (g, fits)) a .1 m
 
-  pub withdrawal-is : (a : Withdrawal) → (withdrawOf bytes n work room ≡ a) ↔ WithdrawalMeans bytes work n room a
-  withdrawal-is a = (λ e. subst (WithdrawalMeans bytes work n room) e (on-withdrawal (admitOf bytes work) refl), withdrawal-back)
+  answer-is : (a : Withdrawal) → (answer ≡ a) ↔ AnswerMeans bytes work Admitted a
+  answer-is a = (λ e. subst (AnswerMeans bytes work Admitted) e (on-answer (admitOf bytes work) refl), answer-back)
+
+pub withdrawal-is : (bytes : List ℕ) (work n room : ℕ) (a : Withdrawal)
+    → (withdrawOf bytes n work room ≡ a) ↔ WithdrawalMeans bytes work n room a
+withdrawal-is bytes work n room =
+    answer-is bytes work (λ T C L. AdmittedWithdrawalMeans bytes T C L n room) (withdrawOf bytes n work room)
+    (withdraw-refused bytes n work room) (withdrawn-is bytes n work room)
+
+pub set-withdrawal-is : (bytes : List ℕ) (work : ℕ) (set : List ℕ) (room : ℕ) (a : Withdrawal)
+    → (withdrawSetOf bytes set work room ≡ a) ↔ SetWithdrawalMeans bytes work set room a
+set-withdrawal-is bytes work set room =
+    answer-is bytes work (λ T C L. AdmittedSetMeans bytes T C L set room) (withdrawSetOf bytes set work room)
+    (set-refused bytes set work room) (set-is bytes set work room)
+
+-- a length that is answered is within the output
+pub set-written-fits : (bytes set : List ℕ) (work room l : ℕ) → withdrawSetOf bytes set work room ≡ Written l → l ≤ room
+set-written-fits bytes set work room l e = at (set-withdrawal-is bytes work set room (Written l) .0 e)
+  where
+    at : {m : ℕ} → SetWithdrawalMeans bytes work set room (Written m) → m ≤ room
+    at (admitted g fits (withdrawn rising all none k)) = k
 
 -- The work buffer: after a refusal it holds what the number says, all sizes from 8 on; after any other answer, all
 -- sizes. Once the sheet is accepted it makes no difference what is answered.
@@ -96,16 +124,28 @@ module _ (bytes before : List ℕ) where
       at : FoundMeans bytes (length before) w (Line i) → AllSizes
       at (found g room l) = all-sizes g room
 
+  -- a withdrawal of any kind, whose own refusals have numbers from 11 on
+  module _ (Admitted : ℕ → ℕ → ℕ → Withdrawal → Type 0) where
+    refusal-left : ((T C L number place : ℕ) → Admitted T C L (Refused number place) → 11 ≤ number)
+        → {number place : ℕ} → AnswerMeans bytes (length before) Admitted (Refused number place)
+        → RefusalLeaves number place
+    refusal-left late (unfit f) = fault-left bytes before f
+    refusal-left late (admitted g fits m) = later g fits _ _ (omega (arith, late _ _ _ _ _ m))
+
+    any-left : {new : ℕ} → AnswerMeans bytes (length before) Admitted (Written new) → AllSizes
+    any-left (admitted g fits m) = all-sizes g fits
+
   module _ (n room : ℕ) where
+    late : {T C L number place : ℕ} → AdmittedWithdrawalMeans bytes T C L n room (Refused number place) → 11 ≤ number
+    late (missing h) = omega arith
+    late (used h u) = omega arith
+    late (short h u k) = omega arith
+
     pub withdrawal-left : (number place : ℕ) → withdrawOf bytes n (length before) room ≡ Refused number place
         → RefusalLeaves number place
-    withdrawal-left number place e = at (withdrawal-is bytes (length before) n room (Refused number place) .0 e)
-      where
-        at : {k p : ℕ} → WithdrawalMeans bytes (length before) n room (Refused k p) → RefusalLeaves k p
-        at (unfit f) = fault-left bytes before f
-        at (admitted g fits (missing h)) = later g fits 11 n (omega arith)
-        at (admitted g fits (used {p} h u)) = later g fits 12 p (omega arith)
-        at (admitted g fits (short h u k)) = later g fits 13 0 (omega arith)
+    withdrawal-left number place e =
+        refusal-left (λ T C L. AdmittedWithdrawalMeans bytes T C L n room) (λ T C L number place. late)
+        (withdrawal-is bytes (length before) n room (Refused number place) .0 e)
 
     -- after 11 to 13 all sizes
     pub withdrawal-sizes : (number place : ℕ) → withdrawOf bytes n (length before) room ≡ Refused number place
@@ -113,7 +153,29 @@ module _ (bytes before : List ℕ) where
     withdrawal-sizes number place e h = withdrawal-left number place e .wholly (omega arith)
 
     pub written-left : (new : ℕ) → withdrawOf bytes n (length before) room ≡ Written new → AllSizes
-    written-left new e = at (withdrawal-is bytes (length before) n room (Written new) .0 e)
-      where
-        at : {l : ℕ} → WithdrawalMeans bytes (length before) n room (Written l) → AllSizes
-        at (admitted g fits (written h u k)) = all-sizes g fits
+    written-left new e =
+        any-left (λ T C L. AdmittedWithdrawalMeans bytes T C L n room)
+        (withdrawal-is bytes (length before) n room (Written new) .0 e)
+
+  module _ (set : List ℕ) (room : ℕ) where
+    late-set : {T C L number place : ℕ} → AdmittedSetMeans bytes T C L set room (Refused number place) → 11 ≤ number
+    late-set (notRising f) = omega arith
+    late-set (beyond rising m) = omega arith
+    late-set (cited rising all u) = omega arith
+    late-set (tooShort rising all none k) = omega arith
+
+    pub set-withdrawal-left : (number place : ℕ) → withdrawSetOf bytes set (length before) room ≡ Refused number place
+        → RefusalLeaves number place
+    set-withdrawal-left number place e =
+        refusal-left (λ T C L. AdmittedSetMeans bytes T C L set room) (λ T C L number place. late-set)
+        (set-withdrawal-is bytes (length before) set room (Refused number place) .0 e)
+
+    -- after 18 and 11 to 13 all sizes
+    pub set-withdrawal-sizes : (number place : ℕ) → withdrawSetOf bytes set (length before) room ≡ Refused number place
+        → 11 ≤ number → AllSizes
+    set-withdrawal-sizes number place e h = set-withdrawal-left number place e .wholly (omega arith)
+
+    pub set-written-left : (new : ℕ) → withdrawSetOf bytes set (length before) room ≡ Written new → AllSizes
+    set-written-left new e =
+        any-left (λ T C L. AdmittedSetMeans bytes T C L set room)
+        (set-withdrawal-is bytes (length before) set room (Written new) .0 e)

@@ -4,7 +4,7 @@ use mathlib.Core.Path.{_≡_, refl, sym, subst}
 use mathlib.Core.Logic.{_↔_}
 use mathlib.Core.Bool.{Bool, true, false, _&&_}
 use mathlib.Core.List.{List}
-use Prim.Native.Nat.{ℕ, zero, suc, _≤_, _<_}
+use Prim.Native.Nat.{ℕ, zero, suc, _+_, _≤_, _<_}
 use native.Mathlib.Omega.{arith}
 use lib.Dec.{leb, ltb}
 use lib.ListN.{getD}
@@ -25,6 +25,16 @@ use Rattle.sheets.specs.declared.lines.Line.{Line}
 use Rattle.sheets.specs.Layout.{editionOf, linesIn}
 use Rattle.sheets.specs.Lines.{lineWord, lineOf, judgmentOf, premisesOf, below, subjectsFit, premisesFit, ruleFits, numbersFit, lineFits, lineAt}
 use Rattle.sheets.specs.GoodLines.{LineOk}
+
+-- the premises are words 6 to 9
+pub premise-word : (edition : ℕ) (lines : List ℕ) (k j : ℕ) → j < 4
+    → lineWord lines k (6 + j) ≡ getD (premisesOf (lineOf edition lines k)) j 0
+unfolding lineOf premisesOf
+premise-word edition lines k zero h = refl
+premise-word edition lines k (suc zero) h = refl
+premise-word edition lines k (suc (suc zero)) h = refl
+premise-word edition lines k (suc (suc (suc zero))) h = refl
+premise-word edition lines k (suc (suc (suc (suc j)))) h = absurd (omega arith)
 
 -- `bound`
 pub bound-used : (b : Bool) (n : ℕ) → b ≡ true → n ≡ below b n

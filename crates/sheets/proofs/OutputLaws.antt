@@ -1,179 +1,147 @@
--- The output after a withdrawal is what document 01 says, for any sheet, line number and buffers; no other bytes are.
+-- The output after a withdrawal is what document 01 says, for any sheet, line number and buffers; no other bytes are:
+-- the withdrawal of the set of one line.
 -- Assumes nothing.
-use mathlib.Core.Path.{_≡_, refl, sym, _∙_, ap, ap₂, subst}
-use mathlib.Core.List.{List, [], _∷_, _++_}
-use Prim.Native.Nat.{ℕ, zero, suc, _+_, _-_, _*_, _/_, _%_, _≤_, _<_}
+use mathlib.Core.Path.{_≡_, refl, sym, _∙_, ap, subst}
+use mathlib.Core.List.{List, [], _∷_}
+use Prim.Native.Nat.{ℕ, zero, suc, _-_, _≤_, _<_}
 use native.Mathlib.Decide.{decLt}
 use native.Mathlib.Omega.{arith}
-use lib.ListN.{length, take, drop, take-append-drop, length-drop}
-use lib.Seq.{getD-drop, ext-getD}
-use Rattle.terms.specs.Words.{wordAt}
+use lib.ListN.{length}
 use Rattle.terms.specs.Buffers.{over}
-use Rattle.sheets.specs.declared.layout.Trailer.{Trailer}
 use Rattle.sheets.specs.declared.withdrawal.Withdrawal.{Withdrawal}
 use Rattle.sheets.specs.declared.withdrawal.Withdrawal.the-variants.{Written, Refused}
-use Rattle.sheets.specs.Layout.{linesIn, trailerWord, trailerOf}
-use Rattle.sheets.specs.Lines.{lineWord}
+use Rattle.sheets.specs.Layout.{linesIn, trailerOf}
 use Rattle.sheets.specs.Good.{Good}
 use Rattle.sheets.specs.GoodLayout.{trailerFor}
 use Rattle.sheets.specs.Accepted.{Bytes}
-use Rattle.sheets.specs.Withdrawal.{newLength, newWord, linesStart, linesEnd, sheetWithout, withoutLine}
+use Rattle.sheets.specs.LineSets.{Stays, countBelow, newNumber}
+use Rattle.sheets.specs.Withdrawal.{lowerPremise, newLength, sheetWithout, withoutLine}
 use Rattle.sheets.specs.Withdrawal.{withdrawOf, outFrom, outAfter, written}
+use Rattle.sheets.specs.WithdrawalSet.{keptLength, withoutLines, AllLines}
 use Rattle.sheets.specs.Output.{MovedLine, LineAway, WrittenLeft, OutputLeft}
+use Rattle.sheets.specs.SetOutput.{Renumbered, LinesAway, SetWrittenLeft}
 use Rattle.sheets.specs.Answered.{WithdrawalMeans, admitted}
-use Rattle.sheets.proofs.WrittenLaws.{word-drop, written-only}
-use Rattle.sheets.proofs.BufferLaws.{over-length, over-beyond}
-use Rattle.sheets.proofs.SheetWithout.{word-new, line-away}
-use Rattle.sheets.proofs.WithdrawalLaws.{without-counted, without-long, new-sheet}
+use Rattle.sheets.proofs.LineNumberLaws.{lower-above, lower-upto}
+use Rattle.sheets.proofs.LineSetLaws.{new-lower}
 use Rattle.sheets.proofs.AnsweredLaws.{withdrawal-is}
+use Rattle.sheets.proofs.OneLineLaws.{one-rises, one-listed, one-other}
+use Rattle.sheets.proofs.LinesAwayLaws.{of-written}
+use Rattle.sheets.proofs.SetOutputLaws.{written-left, left-only}
 
-trailer-word : (s t : List ℕ) → trailerOf s ≡ trailerOf t → (j : ℕ) → j < 8 → trailerWord s j ≡ trailerWord t j
-unfolding trailerOf
-trailer-word s t e zero h = ap (λ r. r .terms) e
-trailer-word s t e (suc zero) h = ap (λ r. r .contexts) e
-trailer-word s t e (suc (suc zero)) h = ap (λ r. r .lines) e
-trailer-word s t e (suc (suc (suc zero))) h = ap (λ r. r .edition) e
-trailer-word s t e (suc (suc (suc (suc zero)))) h = ap (λ r. r .«to_terms») e
-trailer-word s t e (suc (suc (suc (suc (suc zero))))) h = ap (λ r. r .«to_contexts») e
-trailer-word s t e (suc (suc (suc (suc (suc (suc zero)))))) h = ap (λ r. r .«to_lines») e
-trailer-word s t e (suc (suc (suc (suc (suc (suc (suc zero))))))) h = ap (λ r. r .mark) e
-trailer-word s t e (suc (suc (suc (suc (suc (suc (suc (suc j)))))))) h = absurd (omega arith)
+-- the set of line n alone
+module _ (n : ℕ) where
+  abbrev one : List ℕ
+  one = n ∷ []
 
--- two sheets that are the old one without line n have the same words
-module _ {old s t : List ℕ} {T C L n : ℕ} (a : LineAway old s T C L n) (c : LineAway old t T C L n) where
-  line-same : (k j : ℕ) → suc k < L → j < 10 → lineWord (linesIn s T C) k j ≡ lineWord (linesIn t T C) k j
-  line-same k j h l = at (decLt k n)
-    where
-      both : {m : ℕ} → MovedLine n (linesIn old T C) (linesIn s T C) m k
-          → MovedLine n (linesIn old T C) (linesIn t T C) m k
-          → Dec (j < 6) → lineWord (linesIn s T C) k j ≡ lineWord (linesIn t T C) k j
-      both x y (yes f) = x .fields j f ∙ sym (y .fields j f)
-      both x y (no f) = x .premises j (omega arith) l ∙ sym (y .premises j (omega arith) l)
+  one-lines : (L : ℕ) → n < L → AllLines L one
+  one-lines L h k l = omega (arith, one-listed l)
 
-      at : Dec (k < n) → lineWord (linesIn s T C) k j ≡ lineWord (linesIn t T C) k j
-      at (yes f) = both (a .before k f) (c .before k f) (decLt j 6)
-      at (no f) = both (a .behind k (omega arith) h) (c .behind k (omega arith) h) (decLt j 6)
+  one-new : (p : ℕ) → newNumber one p ≡ lowerPremise n p
+  unfolding countBelow
+  one-new p = let none : p - 0 ≡ p = omega arith in new-lower n [] (one-rises n) p ∙ ap (lowerPremise n) none
 
-  in-line : (k j : ℕ) → suc k < L → j < 10
-      → wordAt s (linesStart T C + (10 * k + j)) ≡ wordAt t (linesStart T C + (10 * k + j))
-  unfolding lineWord linesIn
-  in-line k j h l =
-      sym (word-drop s (10 * T + 4 * C) (linesStart T C) (10 * k + j) (omega arith)) ∙ line-same k j h l
-      ∙ word-drop t (10 * T + 4 * C) (linesStart T C) (10 * k + j) (omega arith)
+  new-before : (k : ℕ) → k < n → newNumber one k ≡ k
+  new-before k h = one-new k ∙ lower-upto n k (omega arith)
 
-  same-trailer : trailerOf s ≡ trailerOf t
-  same-trailer =
-      a .laid .trailer ∙ ap (λ e. trailerFor e T C (L - 1)) (a .edition ∙ sym (c .edition)) ∙ sym (c .laid .trailer)
+  new-behind : (k : ℕ) → n ≤ k → newNumber one (suc k) ≡ k
+  new-behind k h = one-new (suc k) ∙ lower-above n (suc k) (omega arith) ∙ omega arith
 
-  in-trailer : (j : ℕ) → j < 8 → wordAt s (linesEnd T C L + j) ≡ wordAt t (linesEnd T C L + j)
-  unfolding trailerWord
-  in-trailer j h =
-      sym (word-drop s (length s - 16) (linesEnd T C L) j (omega (arith, a .laid .long)))
-      ∙ trailer-word s t same-trailer j h
-      ∙ word-drop t (length t - 16) (linesEnd T C L) j (omega (arith, c .laid .long))
+  -- what is left without the line is what is left without the set: line by line, of the sheet, of the output
+  module _ {old new : List ℕ} (k : ℕ) {m : ℕ} (e : newNumber one k ≡ m) where
+    line-moved : Renumbered one old new k (newNumber one k) → MovedLine n old new k m
+    line-moved r =
+        subst (MovedLine n old new k) e
+        (record { fields = r .fields; premises = λ j low high. r .premises j low high ∙ one-new _ })
 
-  same-words : (i : ℕ) → i < linesEnd T C L + 8 → wordAt s i ≡ wordAt t i
-  same-words i h = at (decLt i (linesStart T C)) (decLt i (linesEnd T C L))
-    where
-      Same : ℕ → Type 0
-      Same m = wordAt s m ≡ wordAt t m
+    set-renumbered : MovedLine n old new k m → Renumbered one old new k (newNumber one k)
+    set-renumbered r =
+        subst (Renumbered one old new k) (sym e)
+        (record { fields = r .fields; premises = λ j low high. r .premises j low high ∙ sym (one-new _) })
 
-      at : Dec (i < linesStart T C) → Dec (i < linesEnd T C L) → Same i
-      at (yes l) d = a .tables i l ∙ sym (c .tables i l)
-      at (no l) (yes m) =
-          let k = (i - linesStart T C) / 10 in
-          let j = (i - linesStart T C) % 10 in
-          let e : linesStart T C + (10 * k + j) ≡ i = omega arith in
-          subst Same e (in-line k j (omega arith) (omega arith))
-      at (no l) (no m) =
-          let e : linesEnd T C L + (i - linesEnd T C L) ≡ i = omega arith in
-          subst Same e (in-trailer (i - linesEnd T C L) (omega arith))
-
-bytes-taken : (k : ℕ) (l : List ℕ) → Bytes l → Bytes (take k l)
-bytes-taken zero l b = tt
-bytes-taken (suc k) [] b = tt
-bytes-taken (suc k) (x ∷ l) b = (b .0, bytes-taken k l (b .1))
-
--- a sheet with these counts, of which line n is withdrawn
-module _ (bytes : List ℕ) (T C L n : ℕ) (g : Good bytes T C L) (there : n < L) where
-  away-only : (s : List ℕ) → Bytes s → LineAway bytes s T C L n → s ≡ sheetWithout bytes T C L n
-  unfolding sheetWithout
-  away-only s b a =
-      written-only (newWord bytes (linesStart T C) (linesEnd T C L) n) (linesEnd T C L + 8) s b
-      (omega (arith, a .laid .long))
-      (λ i h. same-words a (line-away bytes T C L n g there) i h ∙ word-new bytes T C L n g there i h)
-
-  -- the counts are those of the trailer
-  abbrev AwayBy : List ℕ → Trailer → Type 0
-  AwayBy s t = LineAway bytes s (t .terms) (t .contexts) (t .lines) n
-
-  module _ (before : List ℕ) where
-    size : length (withoutLine bytes n) ≡ newLength T C L
-    size = without-long bytes n 0 before T C L g there
-
-    sheet-left : newLength T C L ≤ length before
-        → WrittenLeft bytes n before (over (withoutLine bytes n) before) (newLength T C L)
-    unfolding trailerFor newLength
-    sheet-left room =
+  module _ {old new : List ℕ} {T C L : ℕ} (there : n < L) where
+    line-away : LinesAway old new T C L one → LineAway old new T C L n
+    line-away a =
         record {
-          shorter = omega (arith, g .tables .laid .long);
-          sheet =
-              subst (AwayBy (take (newLength T C L) (over (withoutLine bytes n) before)))
-              (sym (g .tables .laid .trailer))
-              (subst (λ s. LineAway bytes s T C L n) (sym (new-sheet bytes n 0 before T C L g there))
-              (line-away bytes T C L n g there));
-          long = over-length (withoutLine bytes n) before (omega (arith, size));
-          beyond = λ i h. over-beyond (withoutLine bytes n) before i (omega (arith, size));
+          tables = a .tables;
+          before = λ k h. line-moved k (new-before k h) (a .lines k (omega arith) (one-other (λ e. omega arith)));
+          behind = λ k h l. line-moved (suc k) (new-behind k h) (a .lines (suc k) l (one-other (λ e. omega arith)));
+          edition = a .edition;
+          laid = a .laid;
         }
 
-    left-only : (after : List ℕ) → Bytes after → WrittenLeft bytes n before after (newLength T C L)
-        → after ≡ over (withoutLine bytes n) before
-    unfolding trailerFor
-    left-only after b o = sym (take-append-drop new after) ∙ ap₂ _++_ head (rest ∙ ap (λ m. drop m before) (sym size))
+    set-away : LineAway old new T C L n → LinesAway old new T C L one
+    set-away a =
+        record {
+          tables = a .tables;
+          lines = λ k h stays. at k h stays (decLt k n) (decLt n k);
+          edition = a .edition;
+          laid = a .laid;
+        }
       where
-        new : ℕ
-        new = newLength T C L
+        at : (k : ℕ) → k < L → Stays one k → Dec (k < n) → Dec (n < k)
+            → Renumbered one (linesIn old T C) (linesIn new T C) k (newNumber one k)
+        at k h stays (yes l) d = set-renumbered k (new-before k l) (a .before k l)
+        at zero h stays (no l) (yes m) = absurd (omega arith)
+        at (suc k) h stays (no l) (yes m) =
+            set-renumbered (suc k) (new-behind k (omega arith)) (a .behind k (omega arith) h)
+        at k h stays (no l) (no m) = absurd (stays (0, omega arith, omega arith))
 
-        head : take new after ≡ withoutLine bytes n
-        head =
-            away-only (take new after) (bytes-taken new after b)
-            (subst (AwayBy (take new after)) (g .tables .laid .trailer) (o .sheet))
-            ∙ sym (without-counted bytes n 0 before T C L g)
+  module _ (bytes before after : List ℕ) (new : ℕ) (there : n < trailerOf bytes .lines) where
+    line-left : SetWrittenLeft bytes one before after new → WrittenLeft bytes n before after new
+    line-left o =
+        record { shorter = o .shorter; sheet = line-away there (o .sheet); long = o .long; beyond = o .beyond }
 
-        rest : drop new after ≡ drop new before
-        rest =
-            ext-getD 0 (drop new after) (drop new before)
-            (length-drop new after ∙ ap (λ m. m - new) (o .long) ∙ sym (length-drop new before))
-            (λ i h. getD-drop new after i 0 ∙ o .beyond (new + i) (omega arith) ∙ sym (getD-drop new before i 0))
+    set-left : WrittenLeft bytes n before after new → SetWrittenLeft bytes one before after new
+    set-left o = record { shorter = o .shorter; sheet = set-away there (o .sheet); long = o .long; beyond = o .beyond }
+
+-- a sheet with these counts, of which line n is withdrawn
+module _ {bytes : List ℕ} {T C L n : ℕ} (g : Good bytes T C L) (there : n < L) (before : List ℕ) where
+  in-trailer : n < trailerOf bytes .lines
+  unfolding trailerFor
+  in-trailer = subst (λ t. n < t .lines) (sym (g .tables .laid .trailer)) there
+
+  sheet-left : newLength T C L ≤ length before
+      → WrittenLeft bytes n before (over (withoutLine bytes n) before) (newLength T C L)
+  unfolding newLength keptLength withoutLines
+  sheet-left room =
+      line-left n bytes before _ _ in-trailer (written-left g (n ∷ []) (one-rises n) (one-lines n L there) before room)
+
+  -- the new sheet is written word by word, so the old one need not consist of bytes
+  sheet-only : (after : List ℕ) → Bytes after → WrittenLeft bytes n before after (newLength T C L)
+      → after ≡ over (withoutLine bytes n) before
+  unfolding newLength keptLength withoutLines withoutLine sheetWithout
+  sheet-only after b o =
+      left-only g (n ∷ []) (one-rises n) (one-lines n L there) before (of-written _ _) after b
+      (set-left n bytes before after _ in-trailer o)
 
 module _ (bytes : List ℕ) (n work : ℕ) (before : List ℕ) where
   abbrev Means : Withdrawal → Type 0
   Means = WithdrawalMeans bytes work n (length before)
 
-  left : (a : Withdrawal) → Means a → OutputLeft bytes n before (outFrom bytes n before a) a
+  left : (a : Withdrawal) → Means a → OutputLeft bytes n before (outFrom (withoutLine bytes n) before a) a
   unfolding OutputLeft outFrom
   left (Refused number place) m = refl
   left (Written new) m = at m
     where
       at : {l : ℕ} → Means (Written l) → WrittenLeft bytes n before (over (withoutLine bytes n) before) l
-      at (admitted {T} {C} {L} g fits (written h u room)) = sheet-left bytes T C L n g h before room
+      at (admitted g fits (written h u room)) = sheet-left g h before room
 
   only : (a : Withdrawal) → Means a → (after : List ℕ) → Bytes after → OutputLeft bytes n before after a
-      → after ≡ outFrom bytes n before a
+      → after ≡ outFrom (withoutLine bytes n) before a
   unfolding OutputLeft outFrom
   only (Refused number place) m after b o = o
   only (Written new) m after b o = at m o
     where
       at : {l : ℕ} → Means (Written l) → WrittenLeft bytes n before after l → after ≡ over (withoutLine bytes n) before
-      at (admitted {T} {C} {L} g fits (written h u room)) k = left-only bytes T C L n g h before after b k
+      at (admitted g fits (written h u room)) k = sheet-only g h before after b k
 
   module _ (a : Withdrawal) (answer : withdrawOf bytes n work (length before) ≡ a) where
     means : Means a
     means = withdrawal-is bytes work n (length before) a .0 answer
 
-    after-is : outAfter bytes n work before ≡ outFrom bytes n before a
+    after-is : outAfter bytes n work before ≡ outFrom (withoutLine bytes n) before a
     unfolding outAfter
-    after-is = ap (outFrom bytes n before) answer
+    after-is = ap (outFrom (withoutLine bytes n) before) answer
 
     -- what is left is what the answer says
     pub output-left : OutputLeft bytes n before (outAfter bytes n work before) a

@@ -7,92 +7,58 @@ use mathlib.Core.List.{List, [], _∷_, map}
 use Prim.Native.Nat.{ℕ, zero, suc, _+_, _-_, _*_, _%_, _≤_, _<_}
 use native.Mathlib.Decide.{decLt}
 use native.Mathlib.Omega.{arith}
-use lib.Dec.{leb, ltb}
+use lib.Dec.{leb}
 use lib.ListN.{length, getD, take, drop}
-use borrow.Author.Tests.{lt-ltb}
+use borrow.Author.Tests.{lt-ltb, le-ltb}
 use Rattle.terms.specs.Words.{wordAt}
-use Rattle.terms.proofs.Tests.{refutes, says-le, says-lt}
+use Rattle.terms.specs.Table.{TermTable}
+use Rattle.terms.proofs.Tests.{refutes, says-le}
 use Rattle.rules.specs.Editions.{IsEdition, rowIn}
 use Rattle.rules.specs.Instance.{Instance}
 use Rattle.rules.specs.RuleTable.{premiseCount}
+use Rattle.rules.specs.Contexts.{ContextTable}
 use Rattle.rules.specs.Stated.{stated}
 use Rattle.sheets.specs.declared.lines.Line.{Line}
-use Rattle.sheets.specs.Layout.{contextsIn, linesIn, trailerWord, trailerOf, editionOf, toLines, toContexts, toTerms}
+use Rattle.sheets.specs.Layout.{contextsIn, linesIn, trailerWord, trailerOf, editionOf}
+use Rattle.sheets.specs.Layout.{toLines, toContexts, toTerms}
 use Rattle.sheets.specs.Lines.{lineWord, lineOf, judgmentOf, premisesOf, citedBy, lineAt, statedAt, LineFollows}
 use Rattle.sheets.specs.Good.{Good}
 use Rattle.sheets.specs.GoodLines.{LineOk, GoodLine}
 use Rattle.sheets.specs.GoodLayout.{trailerFor, LaidOut}
 use Rattle.terms.specs.Lists.{listed, without}
 use Rattle.sheets.specs.Accepted.{statedBy}
-use Rattle.sheets.specs.Withdrawal.{Uses, lowerPremise, lowered, trailerLoses, oldPlace, newWord, linesStart, linesEnd, sheetWithout, Unused}
-use Rattle.sheets.specs.Output.{MovedLine, LineAway}
+use Rattle.sheets.specs.Withdrawal.{Uses, Unused, lowerPremise, lowered, trailerLoses, oldPlace, newWord}
+use Rattle.sheets.specs.Withdrawal.{linesStart, linesEnd, sheetWithout}
+use Rattle.sheets.specs.Output.{MovedLine}
+use Rattle.sheets.specs.LineSets.{numberBefore}
+use Rattle.sheets.proofs.LineNumberLaws.{before-below, before-behind, lower-upto, before-lower, lower-below}
 use Rattle.sheets.proofs.WrittenLaws.{written-length, word-written, word-drop}
 use Rattle.sheets.proofs.SameTables.{terms-same, contexts-same, stated-same}
 use Rattle.sheets.proofs.AcceptedLaws.{stated-is}
 
-pub at-least : (i k : ℕ) → k ≤ i → ltb i k ≡ false
-at-least i k h = refutes (ltb i k) (says-lt i k) (λ m. omega arith)
-
--- the old number of new line k
-up : ℕ → ℕ → ℕ
-up zero k = suc k
-up (suc n) zero = zero
-up (suc n) (suc k) = suc (up n k)
-
-up-before : (n k : ℕ) → k < n → up n k ≡ k
-unfolding up
-up-before zero k h = absurd (omega arith)
-up-before (suc n) zero h = refl
-up-before (suc n) (suc k) h = ap suc (up-before n k (omega arith))
-
-up-behind : (n k : ℕ) → n ≤ k → up n k ≡ suc k
-unfolding up
-up-behind zero k h = refl
-up-behind (suc n) zero h = absurd (omega arith)
-up-behind (suc n) (suc k) h = ap suc (up-behind n k (omega arith))
-
-pub lower-above : (n p : ℕ) → n < p → lowerPremise n p ≡ p - 1
-unfolding lowerPremise
-lower-above n p h = rw (lt-ltb n p h, lowerPremise)
-
-pub lower-upto : (n p : ℕ) → p ≤ n → lowerPremise n p ≡ p
-unfolding lowerPremise
-lower-upto n p h = rw (at-least n p h, lowerPremise)
-
--- the new number of an old line, and back
-up-lower : (n p : ℕ) → (p ≡ n → ⊥) → up n (lowerPremise n p) ≡ p
-up-lower n p f = at (decLt n p)
-  where
-    at : Dec (n < p) → up n (lowerPremise n p) ≡ p
-    at (yes h) = ap (up n) (lower-above n p h) ∙ omega (arith, up-behind n (p - 1) (omega arith))
-    at (no h) = ap (up n) (lower-upto n p (omega arith)) ∙ up-before n p (omega arith)
-
-lower-below : (n m p : ℕ) → (p ≡ n → ⊥) → p < up n m → lowerPremise n p < m
-lower-below n m p f h = at (decLt n p) (decLt m n)
-  where
-    at : Dec (n < p) → Dec (m < n) → lowerPremise n p < m
-    at (yes a) (yes c) = absurd (omega (arith, up-before n m c))
-    at (yes a) (no c) = omega (arith, lower-above n p a, up-behind n m (omega arith))
-    at (no a) (yes c) = omega (arith, lower-upto n p (omega arith), up-before n m c)
-    at (no a) (no c) = omega (arith, lower-upto n p (omega arith))
-
 module _ {A : Type 0} where
-  listed-same : (f g : ℕ → A) (n : ℕ) → ((k : ℕ) → k < n → f k ≡ g k) → listed f n ≡ listed g n
+  pub listed-same : (f g : ℕ → A) (n : ℕ) → ((k : ℕ) → k < n → f k ≡ g k) → listed f n ≡ listed g n
   unfolding listed
   listed-same f g zero h = refl
-  listed-same f g (suc n) h = ap₂ _∷_ (h 0 (omega arith)) (listed-same (λ k. f (suc k)) (λ k. g (suc k)) n (λ k l. h (suc k) (omega arith)))
+  listed-same f g (suc n) h =
+      ap₂ _∷_ (h 0 (omega arith))
+      (listed-same (λ k. f (suc k)) (λ k. g (suc k)) n (λ k l. h (suc k) (omega arith)))
 
-  listed-without : (n : ℕ) (f : ℕ → A) (l : ℕ) → n ≤ l → listed (λ k. f (up n k)) l ≡ without n (listed f (suc l))
-  unfolding listed without up
+  listed-without : (n : ℕ) (f : ℕ → A) (l : ℕ) → n ≤ l
+      → listed (λ k. f (numberBefore n k)) l ≡ without n (listed f (suc l))
+  unfolding listed without numberBefore
   listed-without zero f l h = refl
   listed-without (suc n) f zero h = absurd (omega arith)
   listed-without (suc n) f (suc l) h = ap (λ r. f 0 ∷ r) (listed-without n (λ i. f (suc i)) l (omega arith))
 
-  map-taken : (f g : ℕ → A) (d : ℕ → ℕ) (c : ℕ) (l : List ℕ) → ((j : ℕ) → j < length l → j < c → f (getD l j 0) ≡ g (d (getD l j 0)))
+  map-taken : (f g : ℕ → A) (d : ℕ → ℕ) (c : ℕ) (l : List ℕ)
+      → ((j : ℕ) → j < length l → j < c → f (getD l j 0) ≡ g (d (getD l j 0)))
       → map f (take c l) ≡ map g (take c (map d l))
   map-taken f g d zero l h = refl
   map-taken f g d (suc c) [] h = refl
-  map-taken f g d (suc c) (p ∷ l) h = ap₂ _∷_ (h 0 (omega arith) (omega arith)) (map-taken f g d c l (λ j a b. h (suc j) (omega arith) (omega arith)))
+  map-taken f g d (suc c) (p ∷ l) h =
+      ap₂ _∷_ (h 0 (omega arith) (omega arith))
+      (map-taken f g d c l (λ j a b. h (suc j) (omega arith) (omega arith)))
 
 -- a line with its premises lowered
 lowerLine : ℕ → Line → Line
@@ -110,7 +76,8 @@ lowerLine n l =
       p3 = lowerPremise n (l .p3);
     }
 
-premise-lowered : (n : ℕ) (l : Line) (j : ℕ) → j < 4 → getD (premisesOf (lowerLine n l)) j 0 ≡ lowerPremise n (getD (premisesOf l) j 0)
+premise-lowered : (n : ℕ) (l : Line) (j : ℕ) → j < 4
+    → getD (premisesOf (lowerLine n l)) j 0 ≡ lowerPremise n (getD (premisesOf l) j 0)
 unfolding premisesOf lowerLine
 premise-lowered n l zero h = refl
 premise-lowered n l (suc zero) h = refl
@@ -118,16 +85,16 @@ premise-lowered n l (suc (suc zero)) h = refl
 premise-lowered n l (suc (suc (suc zero))) h = refl
 premise-lowered n l (suc (suc (suc (suc j)))) h = absurd (omega arith)
 
-pub lowered-field : (n j w : ℕ) → j < 6 → lowered n j w ≡ w
+lowered-field : (n j w : ℕ) → j < 6 → lowered n j w ≡ w
 unfolding lowered
 lowered-field n j w h = let e : leb 6 j ≡ false = refutes (leb 6 j) (says-le 6 j) (λ m. omega arith) in rw (e, lowered)
 
-pub lowered-premise : (n j w : ℕ) → 6 ≤ j → lowered n j w ≡ lowerPremise n w
+lowered-premise : (n j w : ℕ) → 6 ≤ j → lowered n j w ≡ lowerPremise n w
 unfolding lowered
 lowered-premise n j w h = let e : leb 6 j ≡ true = says-le 6 j .1 h in rw (e, lowered)
 
 -- a line's keeping of the layout carries over
-lower-ok : (l : Line) (n m T C : ℕ) → (Uses l n → ⊥) → LineOk l (up n m) T C → LineOk (lowerLine n l) m T C
+lower-ok : (l : Line) (n m T C : ℕ) → (Uses l n → ⊥) → LineOk l (numberBefore n m) T C → LineOk (lowerLine n l) m T C
 unfolding lowerLine judgmentOf
 lower-ok l n m T C f o =
     record {
@@ -136,41 +103,44 @@ lower-ok l n m T C f o =
       numbers = o .numbers;
       unusedSubject = o .unusedSubject;
       earlier = λ j h k.
-          subst (λ p. p < m) (sym (premise-lowered n l j h)) (lower-below n m (getD (premisesOf l) j 0) (λ e. f (j, h, k, e)) (o .earlier j h k));
+          subst (λ p. p < m) (sym (premise-lowered n l j h))
+          (lower-below n m (getD (premisesOf l) j 0) (λ e. f (j, h, k, e)) (o .earlier j h k));
       unusedPremise = λ j h k.
           premise-lowered n l j h ∙ ap (lowerPremise n) (o .unusedPremise j h k) ∙ lower-upto n 0 (omega arith);
     }
 
 -- the words of the new sheet, part by part
 module _ (b : List ℕ) (start end n i : ℕ) where
-  pub new-head : i < start → newWord b start end n i ≡ wordAt b i
+  new-head : i < start → newWord b start end n i ≡ wordAt b i
   unfolding newWord
   new-head h = rw (lt-ltb i start h, newWord)
 
-  pub new-line : start ≤ i → i < end → newWord b start end n i ≡ lowered n ((i - start) % 10) (wordAt b (oldPlace start n i))
+  new-line : start ≤ i → i < end
+      → newWord b start end n i ≡ lowered n ((i - start) % 10) (wordAt b (oldPlace start n i))
   unfolding newWord
-  new-line h k = rw (at-least i start h, lt-ltb i end k, newWord)
+  new-line h k = rw (le-ltb i start h, lt-ltb i end k, newWord)
 
-  pub new-trailer : start ≤ i → end ≤ i → newWord b start end n i ≡ wordAt b (i + 10) - trailerLoses (i - end)
+  new-trailer : start ≤ i → end ≤ i → newWord b start end n i ≡ wordAt b (i + 10) - trailerLoses (i - end)
   unfolding newWord
-  new-trailer h k = rw (at-least i start h, at-least i end k, newWord)
+  new-trailer h k = rw (le-ltb i start h, le-ltb i end k, newWord)
 
-pub old-before : (start n i : ℕ) → i < start + 10 * n → oldPlace start n i ≡ i
+old-before : (start n i : ℕ) → i < start + 10 * n → oldPlace start n i ≡ i
 unfolding oldPlace
 old-before start n i h = rw (lt-ltb i (start + 10 * n) h, oldPlace)
 
-pub old-behind : (start n i : ℕ) → start + 10 * n ≤ i → oldPlace start n i ≡ i + 10
+old-behind : (start n i : ℕ) → start + 10 * n ≤ i → oldPlace start n i ≡ i + 10
 unfolding oldPlace
-old-behind start n i h = rw (at-least i (start + 10 * n) h, oldPlace)
+old-behind start n i h = rw (le-ltb i (start + 10 * n) h, oldPlace)
 
-old-line : (start n m j : ℕ) → j < 10 → oldPlace start n (start + (10 * m + j)) ≡ start + (10 * up n m + j)
+old-line : (start n m j : ℕ) → j < 10 → oldPlace start n (start + (10 * m + j)) ≡ start + (10 * numberBefore n m + j)
 old-line start n m j h = at (decLt m n)
   where
-    at : Dec (m < n) → oldPlace start n (start + (10 * m + j)) ≡ start + (10 * up n m + j)
-    at (yes l) = old-before start n (start + (10 * m + j)) (omega arith) ∙ omega (arith, up-before n m l)
-    at (no l) = old-behind start n (start + (10 * m + j)) (omega arith) ∙ omega (arith, up-behind n m (omega arith))
+    at : Dec (m < n) → oldPlace start n (start + (10 * m + j)) ≡ start + (10 * numberBefore n m + j)
+    at (yes l) = old-before start n (start + (10 * m + j)) (omega arith) ∙ omega (arith, before-below n m l)
+    at (no l) = old-behind start n (start + (10 * m + j)) (omega arith) ∙ omega (arith, before-behind n m (omega arith))
 
-module _ (b : List ℕ) (T C L n : ℕ) (g : Good b T C L) (there : n < L) where
+-- what the sheet without line n holds, for any sheet with this layout
+module _ (b : List ℕ) (T C L n : ℕ) (old : LaidOut b T C L) (there : n < L) where
   abbrev new : List ℕ
   new = sheetWithout b T C L n
 
@@ -178,11 +148,11 @@ module _ (b : List ℕ) (T C L n : ℕ) (g : Good b T C L) (there : n < L) where
   unfolding sheetWithout
   new-long = omega (arith, written-length (newWord b (linesStart T C) (linesEnd T C L) n) (linesEnd T C L + 8))
 
-  pub word-new : (i : ℕ) → i < linesEnd T C L + 8 → wordAt new i ≡ newWord b (linesStart T C) (linesEnd T C L) n i
+  word-new : (i : ℕ) → i < linesEnd T C L + 8 → wordAt new i ≡ newWord b (linesStart T C) (linesEnd T C L) n i
   unfolding sheetWithout
   word-new i h = word-written (newWord b (linesStart T C) (linesEnd T C L) n) (linesEnd T C L + 8) i h
 
-  head-word : (i : ℕ) → i < linesStart T C → wordAt new i ≡ wordAt b i
+  pub head-word : (i : ℕ) → i < linesStart T C → wordAt new i ≡ wordAt b i
   head-word i h = word-new i (omega arith) ∙ new-head b (linesStart T C) (linesEnd T C L) n i h
 
   same-words : (i : ℕ) → i < linesStart T C → wordAt b i ≡ wordAt new i
@@ -192,10 +162,11 @@ module _ (b : List ℕ) (T C L n : ℕ) (g : Good b T C L) (there : n < L) where
   trailer-word : (i loses : ℕ) → i < 8 → trailerLoses i ≡ loses → trailerWord new i ≡ trailerWord b i - loses
   unfolding trailerWord
   trailer-word i loses h e =
-      word-drop new (length new - 16) (linesEnd T C L) i (omega (arith, new-long)) ∙ word-new (linesEnd T C L + i) (omega arith)
+      word-drop new (length new - 16) (linesEnd T C L) i (omega (arith, new-long))
+      ∙ word-new (linesEnd T C L + i) (omega arith)
       ∙ new-trailer b (linesStart T C) (linesEnd T C L) n (linesEnd T C L + i) (omega arith) (omega arith)
       ∙ (λ k. wordAt b (place k) - (ap trailerLoses at ∙ e) k)
-      ∙ ap (λ w. w - loses) (sym (word-drop b (length b - 16) (linesStart T C + 10 * L) i (omega (arith, g .tables .laid .long))))
+      ∙ ap (λ w. w - loses) (sym (word-drop b (length b - 16) (linesStart T C + 10 * L) i (omega (arith, old .long))))
     where
       place : linesEnd T C L + i + 10 ≡ linesStart T C + 10 * L + i
       place = omega arith
@@ -211,7 +182,7 @@ module _ (b : List ℕ) (T C L n : ℕ) (g : Good b T C L) (there : n < L) where
   trailer-is : trailerOf new ≡ trailerFor (editionOf new) T C (L - 1)
   unfolding trailerOf trailerFor trailerLoses editionOf
   trailer-is =
-      let t : trailerOf b ≡ trailerFor (editionOf b) T C L = g .tables .laid .trailer in
+      let t : trailerOf b ≡ trailerFor (editionOf b) T C L = old .trailer in
       let e0 : trailerWord b 0 ≡ T = ap (λ r. r .terms) t in
       let e1 : trailerWord b 1 ≡ C = ap (λ r. r .contexts) t in
       let e2 : trailerWord b 2 ≡ L = ap (λ r. r .lines) t in
@@ -237,58 +208,49 @@ module _ (b : List ℕ) (T C L n : ℕ) (g : Good b T C L) (there : n < L) where
         mark = f7 i;
       }
 
-  laid : LaidOut new T C (L - 1)
+  pub laid : LaidOut new T C (L - 1)
   laid =
-      let l = g .tables .laid in
       record {
         trailer = trailer-is;
-        edition = subst IsEdition (sym edition-kept) (l .edition);
-        fewTerms = l .fewTerms;
-        fewContexts = l .fewContexts;
-        fewLines = omega (arith, l .fewLines);
+        edition = subst IsEdition (sym edition-kept) (old .edition);
+        fewTerms = old .fewTerms;
+        fewContexts = old .fewContexts;
+        fewLines = omega (arith, old .fewLines);
         long = new-long;
       }
 
   -- the lines
-  line-word : (m j : ℕ) → m < L - 1 → j < 10 → lineWord (linesIn new T C) m j ≡ lowered n j (lineWord (linesIn b T C) (up n m) j)
+  line-word : (m j : ℕ) → m < L - 1 → j < 10
+      → lineWord (linesIn new T C) m j ≡ lowered n j (lineWord (linesIn b T C) (numberBefore n m) j)
   unfolding lineWord linesIn
   line-word m j h k =
-      word-drop new (10 * T + 4 * C) (linesStart T C) (10 * m + j) (omega arith) ∙ word-new (linesStart T C + (10 * m + j)) (omega arith)
+      word-drop new (10 * T + 4 * C) (linesStart T C) (10 * m + j) (omega arith)
+      ∙ word-new (linesStart T C + (10 * m + j)) (omega arith)
       ∙ new-line b (linesStart T C) (linesEnd T C L) n (linesStart T C + (10 * m + j)) (omega arith) (omega arith)
       ∙ (λ i. lowered n (at i) (place i))
     where
       at : (linesStart T C + (10 * m + j) - linesStart T C) % 10 ≡ j
       at = omega arith
 
-      place : wordAt b (oldPlace (linesStart T C) n (linesStart T C + (10 * m + j))) ≡ wordAt (drop (10 * T + 4 * C) b) (10 * up n m + j)
+      place : wordAt b (oldPlace (linesStart T C) n (linesStart T C + (10 * m + j)))
+          ≡ wordAt (drop (10 * T + 4 * C) b) (10 * numberBefore n m + j)
       place =
           ap (wordAt b) (old-line (linesStart T C) n m j k)
-          ∙ sym (word-drop b (10 * T + 4 * C) (linesStart T C) (10 * up n m + j) (omega arith))
+          ∙ sym (word-drop b (10 * T + 4 * C) (linesStart T C) (10 * numberBefore n m + j) (omega arith))
 
-  line-field : (m j : ℕ) → m < L - 1 → j < 6 → lineWord (linesIn new T C) m j ≡ lineWord (linesIn b T C) (up n m) j
+  line-field : (m j : ℕ) → m < L - 1 → j < 6
+      → lineWord (linesIn new T C) m j ≡ lineWord (linesIn b T C) (numberBefore n m) j
   line-field m j h k = line-word m j h (omega arith) ∙ lowered-field n j _ k
 
   line-premise : (m j : ℕ) → m < L - 1 → 6 ≤ j → j < 10
-      → lineWord (linesIn new T C) m j ≡ lowerPremise n (lineWord (linesIn b T C) (up n m) j)
+      → lineWord (linesIn new T C) m j ≡ lowerPremise n (lineWord (linesIn b T C) (numberBefore n m) j)
   line-premise m j h l k = line-word m j h k ∙ lowered-premise n j _ l
 
-  -- the new sheet is the old one without line n, word by word
-  pub line-away : LineAway b new T C L n
-  line-away =
-      record {
-        tables = head-word;
-        before = λ k h. moved k (omega arith) k (up-before n k h);
-        behind = λ k h l. moved k (omega arith) (suc k) (up-behind n k h);
-        edition = edition-kept;
-        laid = laid;
-      }
-    where
-      moved : (k : ℕ) → k < L - 1 → (m : ℕ) → up n k ≡ m → MovedLine n (linesIn b T C) (linesIn new T C) m k
-      moved k h m e =
-          subst (λ i. MovedLine n (linesIn b T C) (linesIn new T C) i k) e
-          (record { fields = λ j l. line-field k j h l; premises = λ j low high. line-premise k j h low high })
+  pub line-moved : (k : ℕ) → k < L - 1 → MovedLine n (linesIn b T C) (linesIn new T C) (numberBefore n k) k
+  line-moved k h =
+      record { fields = λ j l. line-field k j h l; premises = λ j low high. line-premise k j h low high }
 
-  line-new : (m : ℕ) → m < L - 1 → lineAt new T C m ≡ lowerLine n (lineAt b T C (up n m))
+  line-new : (m : ℕ) → m < L - 1 → lineAt new T C m ≡ lowerLine n (lineAt b T C (numberBefore n m))
   unfolding lineAt lineOf lowerLine
   line-new m h =
       λ i. record {
@@ -304,68 +266,84 @@ module _ (b : List ℕ) (T C L n : ℕ) (g : Good b T C L) (there : n < L) where
         p3 = line-premise m 9 h (omega arith) (omega arith) i;
       }
 
-  up-within : (m : ℕ) → m < L - 1 → up n m < L
-  up-within m h = at (decLt m n)
+  before-within : (m : ℕ) → m < L - 1 → numberBefore n m < L
+  before-within m h = at (decLt m n)
     where
-      at : Dec (m < n) → up n m < L
-      at (yes l) = omega (arith, up-before n m l)
-      at (no l) = omega (arith, up-behind n m (omega arith))
+      at : Dec (m < n) → numberBefore n m < L
+      at (yes l) = omega (arith, before-below n m l)
+      at (no l) = omega (arith, before-behind n m (omega arith))
 
-  states : (m : ℕ) → m < L - 1 → statedAt new T C m ≡ statedAt b T C (up n m)
-  unfolding statedAt judgmentOf lowerLine
-  states m h =
-      ap (λ l. stated new (contextsIn new T) (judgmentOf l)) (line-new m h)
-      ∙ sym (stated-same b new T C (g .tables .terms) (g .tables .contexts) same-words (judgmentOf (lineAt b T C (up n m))) (g .lines (up n m) (up-within m h) .ok .numbers))
+  -- line m as it was
+  abbrev was : ℕ → Line
+  was m = lineAt b T C (numberBefore n m)
 
-  module _ (unused : Unused (editionOf b) (linesIn b T C) L n) where
-    not-used : (m : ℕ) → m < L - 1 → Uses (lineAt b T C (up n m)) n → ⊥
-    unfolding lineAt
-    not-used m h u = at (decLt m n)
-      where
-        at : Dec (m < n) → ⊥
-        at (yes l) = omega (arith, up-before n m l, g .lines (up n m) (up-within m h) .ok .earlier (u .0) (u .1) (u .2), u .3)
-        at (no l) = unused (up n m) (omega (arith, up-behind n m (omega arith))) (up-within m h) u
+  -- and what the sheet states, if it is good
+  module _ (g : Good b T C L) where
+    good-line : (m : ℕ) → m < L - 1 → GoodLine b T C (numberBefore n m)
+    good-line m h = g .lines (numberBefore n m) (before-within m h)
 
-    line-follows : (m : ℕ) → m < L - 1
-        → Instance (lineAt b T C (up n m) .rule) (map (statedAt new T C) (citedBy (lowerLine n (lineAt b T C (up n m))))) (statedAt new T C m)
-    unfolding LineFollows citedBy premisesOf lowerLine
-    line-follows m h =
-        subst₂ (Instance (l .rule)) (map-taken (statedAt b T C) (statedAt new T C) (lowerPremise n) (premiseCount (l .rule)) (premisesOf l) cited)
-        (sym (states m h)) (o .follows)
-      where
-        l : Line
-        l = lineAt b T C (up n m)
+    states : (m : ℕ) → m < L - 1 → statedAt new T C m ≡ statedAt b T C (numberBefore n m)
+    unfolding statedAt judgmentOf lowerLine
+    states m h =
+        ap (λ l. stated new (contextsIn new T) (judgmentOf l)) (line-new m h)
+        ∙ sym (stated-same b new T C (g .tables .terms) (g .tables .contexts) same-words
+        (judgmentOf (was m)) (good-line m h .ok .numbers))
 
-        o : GoodLine b T C (up n m)
-        o = g .lines (up n m) (up-within m h)
+    module _ (unused : Unused (editionOf b) (linesIn b T C) L n) where
+      not-used : (m : ℕ) → m < L - 1 → Uses (was m) n → ⊥
+      unfolding lineAt
+      not-used m h u = at (decLt m n)
+        where
+          at : Dec (m < n) → ⊥
+          at (yes l) = omega (arith, before-below n m l, good-line m h .ok .earlier (u .0) (u .1) (u .2), u .3)
+          at (no l) = unused (numberBefore n m) (omega (arith, before-behind n m (omega arith))) (before-within m h) u
 
-        cited : (j : ℕ) → j < 4 → j < premiseCount (l .rule) → statedAt b T C (getD (premisesOf l) j 0) ≡ statedAt new T C (lowerPremise n (getD (premisesOf l) j 0))
-        cited j a c =
-            let p = getD (premisesOf l) j 0 in
-            let away : p ≡ n → ⊥ = λ e. not-used m h (j, a, c, e) in
-            sym (states (lowerPremise n p) (omega (arith, lower-below n m p away (o .ok .earlier j a c))) ∙ ap (statedAt b T C) (up-lower n p away))
+      line-follows : (m : ℕ) → m < L - 1
+          → Instance (was m .rule) (map (statedAt new T C) (citedBy (lowerLine n (was m)))) (statedAt new T C m)
+      unfolding LineFollows citedBy premisesOf lowerLine
+      line-follows m h =
+          subst₂ (Instance (was m .rule))
+          (map-taken (statedAt b T C) (statedAt new T C) (lowerPremise n) (premiseCount (was m .rule)) premises cited)
+          (sym (states m h)) (good-line m h .follows)
+        where
+          premises : List ℕ
+          premises = premisesOf (was m)
 
-    pub good-without : Good new T C (L - 1)
-    unfolding LineFollows lowerLine
-    good-without =
-        record {
-          tables =
+          cited : (j : ℕ) → j < 4 → j < premiseCount (was m .rule)
+              → statedAt b T C (getD premises j 0) ≡ statedAt new T C (lowerPremise n (getD premises j 0))
+          cited j a c =
+              let p = getD premises j 0 in
+              let away : p ≡ n → ⊥ = λ e. not-used m h (j, a, c, e) in
+              let low = lower-below n m p away (good-line m h .ok .earlier j a c) in
+              sym (states (lowerPremise n p) (omega (arith, low)) ∙ ap (statedAt b T C) (before-lower n p away))
+
+      pub good-without : Good new T C (L - 1)
+      unfolding LineFollows lowerLine
+      good-without = record { tables = record { laid = laid; terms = terms; contexts = contexts }; lines = good }
+        where
+          terms : TermTable new T
+          terms = terms-same b new T C (g .tables .terms) (g .tables .contexts) same-words (omega (arith, new-long))
+
+          contexts : ContextTable (contextsIn new T) T C
+          contexts =
+              contexts-same b new T C (g .tables .terms) (g .tables .contexts) same-words (omega (arith, new-long))
+
+          good : (m : ℕ) → m < L - 1 → GoodLine new T C m
+          good m h =
+              let same = sym (line-new m h) in
               record {
-                laid = laid;
-                terms = terms-same b new T C (g .tables .terms) (g .tables .contexts) same-words (omega (arith, new-long));
-                contexts = contexts-same b new T C (g .tables .terms) (g .tables .contexts) same-words (omega (arith, new-long));
-              };
-          lines = λ m h.
-              record {
-                ok = subst (λ l. LineOk l m T C) (sym (line-new m h)) (lower-ok (lineAt b T C (up n m)) n m T C (not-used m h) (g .lines (up n m) (up-within m h) .ok));
-                follows = subst (λ l. Instance (l .rule) (map (statedAt new T C) (citedBy l)) (statedAt new T C m)) (sym (line-new m h)) (line-follows m h);
-              };
-        }
+                ok = subst (λ l. LineOk l m T C) same (lower-ok (was m) n m T C (not-used m h) (good-line m h .ok));
+                follows =
+                    subst (λ l. Instance (l .rule) (map (statedAt new T C) (citedBy l)) (statedAt new T C m)) same
+                    (line-follows m h);
+              }
 
-    pub stated-without : statedBy new ≡ without n (statedBy b)
-    stated-without =
-        stated-is good-without ∙ listed-same (statedAt new T C) (λ k. statedAt b T C (up n k)) (L - 1) states
-        ∙ listed-without n (statedAt b T C) (L - 1) (omega arith) ∙ ap (λ k. without n (listed (statedAt b T C) k)) all ∙ ap (without n) (sym (stated-is g))
-      where
-        all : suc (L - 1) ≡ L
-        all = omega arith
+      pub stated-without : statedBy new ≡ without n (statedBy b)
+      stated-without =
+          stated-is good-without
+          ∙ listed-same (statedAt new T C) (λ k. statedAt b T C (numberBefore n k)) (L - 1) states
+          ∙ listed-without n (statedAt b T C) (L - 1) (omega arith)
+          ∙ ap (λ k. without n (listed (statedAt b T C) k)) all ∙ ap (without n) (sym (stated-is g))
+        where
+          all : suc (L - 1) ≡ L
+          all = omega arith

@@ -1,5 +1,5 @@
 -- Withdrawal, on a sheet that admission accepts: each answer is given exactly if it means what document 01 says. On any
--- other sheet admission's refusal is answered. Demand 3 (c).
+-- other sheet admission's refusal is answered.
 -- Assumes nothing.
 use mathlib.Core.Path.{_≡_, refl, sym, _∙_, ap, subst}
 use mathlib.Core.Logic.{_↔_, _⊎_, inl, inr, ⊎-elim}
@@ -9,29 +9,22 @@ use Prim.Native.Nat.{ℕ, zero, suc, _-_, _≤_, _<_}
 use native.Mathlib.Decide.{decLt}
 use native.Mathlib.Omega.{arith}
 use lib.Dec.{ltb, eqb}
-use lib.ListN.{length, getD, take, drop}
-use lib.Seq.{take-at}
-use borrow.Author.Tests.{lt-ltb}
+use lib.ListN.{getD}
+use borrow.Author.Tests.{lt-ltb, le-ltb}
 use Rattle.terms.specs.Decides.{Decides}
-use Rattle.terms.specs.Buffers.{over}
 use Rattle.terms.proofs.Tests.{says-lt, says-eq, decides-via, _&_, decides-either}
 use Rattle.terms.proofs.SearchLaws.{stops, passes, search-means, FirstOf, first-tells}
 use Rattle.rules.specs.RuleTable.{premiseCount}
 use Rattle.sheets.specs.declared.lines.Line.{Line}
-use Rattle.sheets.specs.declared.admission.Admission.{Admission}
 use Rattle.sheets.specs.declared.admission.Admission.the-variants.{Accepted, Refused as notAdmitted}
 use Rattle.sheets.specs.declared.withdrawal.Withdrawal.{Withdrawal}
 use Rattle.sheets.specs.declared.withdrawal.Withdrawal.the-variants.{Written, Refused}
 use Rattle.sheets.specs.Layout.{editionOf, linesIn}
 use Rattle.sheets.specs.Lines.{lineOf, premisesOf}
 use Rattle.sheets.specs.Admission.{admitOf}
-use Rattle.sheets.specs.Good.{Good}
-use Rattle.sheets.specs.GoodLayout.{trailerFor}
-use Rattle.sheets.specs.Accepted.{IsAccepted, statedBy}
-use Rattle.sheets.specs.Withdrawal.{uses, Uses, firstUse, newLength, afterUse, afterLine, withdrawAfter, withdrawOf, sheetWithout, withoutLine, outFrom, outAfter, LowestUse, Unused, AdmittedWithdrawalMeans, missing, used, short, written, KeepsTheOthers}
-use Rattle.sheets.proofs.AdmissionLaws.{accepted-is}
-use Rattle.sheets.proofs.AcceptedLaws.{good-accepted}
-use Rattle.sheets.proofs.SheetWithout.{at-least, new-long, good-without, stated-without}
+use Rattle.sheets.specs.Withdrawal.{uses, Uses, firstUse, newLength, afterUse, afterLine, withdrawAfter}
+use Rattle.sheets.specs.Withdrawal.{withdrawOf, LowestUse, Unused}
+use Rattle.sheets.specs.Withdrawal.{AdmittedWithdrawalMeans, missing, used, short, written}
 
 -- premise j is used and is n
 abbrev UsesAt : Line → ℕ → ℕ → Type 0
@@ -39,10 +32,13 @@ UsesAt l n j = (j < premiseCount (l .rule)) × (getD (premisesOf l) j 0 ≡ n)
 
 four-uses : (l : Line) (n : ℕ) → (((UsesAt l n 0 ⊎ UsesAt l n 1) ⊎ UsesAt l n 2) ⊎ UsesAt l n 3) ↔ Uses l n
 four-uses l n = (
-  ⊎-elim (⊎-elim (⊎-elim (λ u. (0, omega arith, u .0, u .1)) (λ u. (1, omega arith, u .0, u .1))) (λ u. (2, omega arith, u .0, u .1))) (λ u. (3, omega arith, u .0, u .1)),
+  ⊎-elim (⊎-elim (⊎-elim (at 0 (omega arith)) (at 1 (omega arith))) (at 2 (omega arith))) (at 3 (omega arith)),
   λ u. to (u .0) (u .1) (u .2, u .3),
 )
   where
+    at : (j : ℕ) → j < 4 → UsesAt l n j → Uses l n
+    at j h u = (j, h, u .0, u .1)
+
     to : (j : ℕ) → j < 4 → UsesAt l n j → ((UsesAt l n 0 ⊎ UsesAt l n 1) ⊎ UsesAt l n 2) ⊎ UsesAt l n 3
     to zero h u = inl (inl (inl u))
     to (suc zero) h u = inl (inl (inr u))
@@ -54,7 +50,10 @@ four-uses l n = (
 pub uses-says : (l : Line) (n : ℕ) → Decides (uses l n) (Uses l n)
 unfolding uses premisesOf
 uses-says l n =
-    decides-via (four-uses l n) (decides-either (decides-either (decides-either (says 0 (l .p0)) (says 1 (l .p1))) (says 2 (l .p2))) (says 3 (l .p3)))
+    decides-via (four-uses l n)
+    (decides-either
+    (decides-either (decides-either (says 0 (l .p0)) (says 1 (l .p1))) (says 2 (l .p2)))
+    (says 3 (l .p3)))
   where
     at : ℕ → ℕ → Bool
     at j p = ltb j (premiseCount (l .rule)) && eqb p n
@@ -77,7 +76,7 @@ module _ (edition : ℕ) (lines : List ℕ) (n L : ℕ) (h : n < L) where
   first : First (firstUse edition lines L n)
   first = first-means (firstUse edition lines L n) .0 refl
 
-  pub use-lowest : firstUse edition lines L n < L → LowestUse edition lines L n (firstUse edition lines L n)
+  use-lowest : firstUse edition lines L n < L → LowestUse edition lines L n (firstUse edition lines L n)
   use-lowest l = from first
     where
       from : First (firstUse edition lines L n) → LowestUse edition lines L n (firstUse edition lines L n)
@@ -86,41 +85,43 @@ module _ (edition : ℕ) (lines : List ℕ) (n L : ℕ) (h : n < L) where
           (record { later = low; within = high; uses = x .0; lowest = before })
       from (passes all e) = absurd (omega arith)
 
-  pub use-none : L ≤ firstUse edition lines L n → Unused edition lines L n
+  use-none : L ≤ firstUse edition lines L n → Unused edition lines L n
   use-none l = from first
     where
       from : First (firstUse edition lines L n) → Unused edition lines L n
       from (stops p low high before x) = absurd (omega (arith, x .1))
       from (passes all e) = all
 
-  pub lowest-use : (p : ℕ) → LowestUse edition lines L n p → firstUse edition lines L n ≡ p
+  lowest-use : (p : ℕ) → LowestUse edition lines L n p → firstUse edition lines L n ≡ p
   lowest-use p u = first-means p .1 (stops p (u .later) (u .within) (u .lowest) (u .uses, refl))
 
-  pub none-use : Unused edition lines L n → L ≤ firstUse edition lines L n
+  none-use : Unused edition lines L n → L ≤ firstUse edition lines L n
   none-use f = omega (arith, first-means L .1 (passes f refl))
 
--- the ways through 11, 12 and 13
-module _ (bytes : List ℕ) (T C L n room : ℕ) where
-  pub line-missing : L ≤ n → afterLine bytes T C L n room ≡ Refused 11 n
-  unfolding afterLine
-  line-missing h = rw (at-least n L h, afterLine)
+-- the ways through 12 and 13
+module _ (L new room p : ℕ) where
+  pub use-refused : p < L → afterUse L new room p ≡ Refused 12 p
+  unfolding afterUse
+  use-refused h = rw (lt-ltb p L h, afterUse)
 
-  pub line-there : n < L
-      → afterLine bytes T C L n room ≡ afterUse T C L room (firstUse (editionOf bytes) (linesIn bytes T C) L n)
+  pub room-refused : L ≤ p → room < new → afterUse L new room p ≡ Refused 13 0
+  unfolding afterUse
+  room-refused h k = rw (le-ltb p L h, lt-ltb room new k, afterUse)
+
+  pub room-enough : L ≤ p → new ≤ room → afterUse L new room p ≡ Written new
+  unfolding afterUse
+  room-enough h k = rw (le-ltb p L h, le-ltb room new k, afterUse)
+
+-- 11, then these
+module _ (bytes : List ℕ) (T C L n room : ℕ) where
+  line-missing : L ≤ n → afterLine bytes T C L n room ≡ Refused 11 n
+  unfolding afterLine
+  line-missing h = rw (le-ltb n L h, afterLine)
+
+  line-there : n < L → afterLine bytes T C L n room
+      ≡ afterUse L (newLength T C L) room (firstUse (editionOf bytes) (linesIn bytes T C) L n)
   unfolding afterLine
   line-there h = rw (lt-ltb n L h, afterLine)
-
-  pub use-refused : (p : ℕ) → p < L → afterUse T C L room p ≡ Refused 12 p
-  unfolding afterUse
-  use-refused p h = rw (lt-ltb p L h, afterUse)
-
-  pub room-refused : (p : ℕ) → L ≤ p → room < newLength T C L → afterUse T C L room p ≡ Refused 13 0
-  unfolding afterUse
-  room-refused p h k = rw (at-least p L h, lt-ltb room (newLength T C L) k, afterUse)
-
-  pub room-enough : (p : ℕ) → L ≤ p → newLength T C L ≤ room → afterUse T C L room p ≡ Written (newLength T C L)
-  unfolding afterUse
-  room-enough p h k = rw (at-least p L h, at-least room (newLength T C L) k, afterUse)
 
   means : AdmittedWithdrawalMeans bytes T C L n room (afterLine bytes T C L n room)
   means = at (decLt n L)
@@ -134,14 +135,19 @@ module _ (bytes : List ℕ) (T C L n room : ℕ) where
       none : n < L → L ≤ place → Unused (editionOf bytes) (linesIn bytes T C) L n
       none = use-none (editionOf bytes) (linesIn bytes T C) n L
 
-      on-room : n < L → L ≤ place → Dec (room < newLength T C L) → Means (afterUse T C L room place)
-      on-room h l (yes k) = subst Means (sym (room-refused place l k)) (short h (none h l) k)
-      on-room h l (no k) = subst Means (sym (room-enough place l (omega arith))) (written h (none h l) (omega arith))
+      new : ℕ
+      new = newLength T C L
 
-      on-use : n < L → Dec (place < L) → Means (afterUse T C L room place)
+      on-room : n < L → L ≤ place → Dec (room < new) → Means (afterUse L new room place)
+      on-room h l (yes k) = subst Means (sym (room-refused L new room place l k)) (short h (none h l) k)
+      on-room h l (no k) =
+          subst Means (sym (room-enough L new room place l (omega arith))) (written h (none h l) (omega arith))
+
+      on-use : n < L → Dec (place < L) → Means (afterUse L new room place)
       on-use h (yes l) =
-          subst Means (sym (use-refused place l)) (used h (use-lowest (editionOf bytes) (linesIn bytes T C) n L h l))
-      on-use h (no l) = on-room h (omega arith) (decLt room (newLength T C L))
+          subst Means (sym (use-refused L new room place l))
+          (used h (use-lowest (editionOf bytes) (linesIn bytes T C) n L h l))
+      on-use h (no l) = on-room h (omega arith) (decLt room new)
 
       at : Dec (n < L) → Means (afterLine bytes T C L n room)
       at (yes h) = subst Means (sym (line-there h)) (on-use h (decLt place L))
@@ -151,18 +157,19 @@ module _ (bytes : List ℕ) (T C L n room : ℕ) where
   back (missing h) = line-missing h
   back (used {p} h u) =
       let e = lowest-use (editionOf bytes) (linesIn bytes T C) n L h p u in
-      line-there h ∙ ap (afterUse T C L room) e ∙ use-refused p (u .within)
-  back (short h u k) = line-there h ∙ room-refused _ (none-use (editionOf bytes) (linesIn bytes T C) n L h u) k
-  back (written h u k) = line-there h ∙ room-enough _ (none-use (editionOf bytes) (linesIn bytes T C) n L h u) k
+      line-there h ∙ ap (afterUse L (newLength T C L) room) e ∙ use-refused L (newLength T C L) room p (u .within)
+  back (short h u k) = line-there h ∙ room-refused _ _ _ _ (none-use (editionOf bytes) (linesIn bytes T C) n L h u) k
+  back (written h u k) = line-there h ∙ room-enough _ _ _ _ (none-use (editionOf bytes) (linesIn bytes T C) n L h u) k
 
 module _ (bytes : List ℕ) (n work room : ℕ) where
   -- a refusal of admission is handed on
-  pub withdraw-refused : (number place : ℕ) → admitOf bytes work ≡ notAdmitted number place → withdrawOf bytes n work room ≡ Refused number place
+  pub withdraw-refused : (number place : ℕ) → admitOf bytes work ≡ notAdmitted number place
+      → withdrawOf bytes n work room ≡ Refused number place
   unfolding withdrawOf withdrawAfter
   withdraw-refused number place e = ap (withdrawAfter bytes n room) e
 
   module _ (T C L : ℕ) (accepted : admitOf bytes work ≡ Accepted T C L) where
-    pub withdrawn-by : withdrawOf bytes n work room ≡ afterLine bytes T C L n room
+    withdrawn-by : withdrawOf bytes n work room ≡ afterLine bytes T C L n room
     unfolding withdrawOf withdrawAfter
     withdrawn-by = ap (withdrawAfter bytes n room) accepted
 
@@ -175,7 +182,8 @@ module _ (bytes : List ℕ) (n work room : ℕ) where
     LowestAt p = LowestUse (editionOf bytes) (linesIn bytes T C) L n p
 
     -- on an accepted sheet an answer is given exactly if it means what it should
-    pub withdrawn-is : (a : Withdrawal) → (withdrawOf bytes n work room ≡ a) ↔ AdmittedWithdrawalMeans bytes T C L n room a
+    pub withdrawn-is : (a : Withdrawal)
+        → (withdrawOf bytes n work room ≡ a) ↔ AdmittedWithdrawalMeans bytes T C L n room a
     withdrawn-is a = (
       λ e. subst (AdmittedWithdrawalMeans bytes T C L n room) (sym withdrawn-by ∙ e) (means bytes T C L n room),
       λ m. withdrawn-by ∙ back bytes T C L n room m,
@@ -195,7 +203,10 @@ module _ (bytes : List ℕ) (n work room : ℕ) where
         from (used h u) = (h, u)
 
     pub short-is : (withdrawOf bytes n work room ≡ Refused 13 0) ↔ ((n < L) × Free × (room < newLength T C L))
-    short-is = (λ e. from (withdrawn-is (Refused 13 0) .0 e), λ h. withdrawn-is (Refused 13 0) .1 (short (h .0) (h .1) (h .2)))
+    short-is = (
+      λ e. from (withdrawn-is (Refused 13 0) .0 e),
+      λ h. withdrawn-is (Refused 13 0) .1 (short (h .0) (h .1) (h .2)),
+    )
       where
         from : {p : ℕ} → AdmittedWithdrawalMeans bytes T C L n room (Refused 13 p)
             → (n < L) × Free × (room < newLength T C L)
@@ -208,40 +219,3 @@ module _ (bytes : List ℕ) (n work room : ℕ) where
         from : {l : ℕ} → AdmittedWithdrawalMeans bytes T C L n room (Written l)
             → (n < L) × Free × (newLength T C L ≤ room)
         from (written h u k) = (h, u, k)
-
--- demand 3 (c)
-module _ (bytes : List ℕ) (n work : ℕ) (before : List ℕ) where
-  module _ (T C L : ℕ) (g : Good bytes T C L) where
-    pub without-counted : withoutLine bytes n ≡ sheetWithout bytes T C L n
-    unfolding withoutLine trailerFor
-    without-counted = ap (λ t. sheetWithout bytes (t .terms) (t .contexts) (t .lines) n) (g .tables .laid .trailer)
-
-    pub without-long : n < L → length (withoutLine bytes n) ≡ newLength T C L
-    unfolding newLength
-    without-long h = ap length without-counted ∙ new-long bytes T C L n g h
-
-    -- the output up to the new length
-    pub new-sheet : n < L → take (newLength T C L) (over (withoutLine bytes n) before) ≡ sheetWithout bytes T C L n
-    new-sheet h =
-        take-at (withoutLine bytes n) (drop (length (withoutLine bytes n)) before) (newLength T C L) (without-long h)
-        ∙ without-counted
-
-    on-means : {a : Withdrawal} → AdmittedWithdrawalMeans bytes T C L n (length before) a → KeepsTheOthers bytes n (outFrom bytes n before a) a
-    unfolding KeepsTheOthers outFrom newLength
-    on-means (missing h) = tt
-    on-means (used h u) = tt
-    on-means (short h u k) = tt
-    on-means (written h u k) = (
-      good-accepted g,
-      subst IsAccepted (sym (new-sheet h)) (good-accepted (good-without bytes T C L n g h u)),
-      ap statedBy (new-sheet h) ∙ stated-without bytes T C L n g h u,
-    )
-
-  on-admission : (a : Admission) → admitOf bytes work ≡ a → KeepsTheOthers bytes n (outFrom bytes n before (withdrawAfter bytes n (length before) a)) (withdrawAfter bytes n (length before) a)
-  unfolding KeepsTheOthers withdrawAfter
-  on-admission (notAdmitted number place) e = tt
-  on-admission (Accepted T C L) e = on-means T C L (accepted-is bytes work T C L .0 e .0) (means bytes T C L n (length before))
-
-  pub withdrawal-keeps : KeepsTheOthers bytes n (outAfter bytes n work before) (withdrawOf bytes n work (length before))
-  unfolding outAfter withdrawOf
-  withdrawal-keeps = on-admission (admitOf bytes work) refl

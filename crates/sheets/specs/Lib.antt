@@ -9,6 +9,13 @@ pub mod WorkBuffer
 pub mod Accepted
 pub mod Withdrawal
 pub mod Output
+pub mod LineSets
+pub mod Numbering
+pub mod WithdrawalSet
 pub mod Answered
+pub mod SetOutput
+pub mod Singly
+pub mod KeptWords
+pub mod ListedUses
 pub mod Normality
 pub mod Cases

@@ -8,7 +8,7 @@ use lib.ListN.{length, getD, take}
 use Rattle.terms.specs.Words.{wordAt, bytesOf}
 use Rattle.terms.specs.Search.{firstAt}
 use Rattle.terms.specs.Buffers.{over}
-use Rattle.rules.specs.RuleTable.{IsRule, premiseCount}
+use Rattle.rules.specs.RuleTable.{premiseCount}
 use Rattle.sheets.specs.declared.lines.Line.{Line}
 use Rattle.sheets.specs.declared.admission.Admission.{Admission}
 use Rattle.sheets.specs.declared.admission.Admission.the-variants.{Accepted, Refused as notAdmitted}
@@ -30,10 +30,6 @@ uses l n =
 abbrev pub Uses : Line → ℕ → Type 0
 Uses l n = (j : ℕ) × (j < 4) × (j < premiseCount (l .rule)) × (getD (premisesOf l) j 0 ≡ n)
 
--- the rules of the first count lines of a sheet of this edition are there
-abbrev pub KnownRules : ℕ → List ℕ → ℕ → Type 0
-KnownRules edition lines count = (k : ℕ) → k < count → IsRule (lineOf edition lines k .rule)
-
 -- the lowest line behind line n, of the first count, that uses it; count if none does
 unfoldable pub firstUse : ℕ → List ℕ → ℕ → ℕ → ℕ
 firstUse edition lines count n = firstAt (λ k. uses (lineOf edition lines k) n) (λ k. k) count (count - suc n) (suc n)
@@ -42,12 +38,13 @@ firstUse edition lines count n = firstAt (λ k. uses (lineOf edition lines k) n)
 unfoldable pub newLength : ℕ → ℕ → ℕ → ℕ
 newLength T C L = toTerms T C (L - 1) + 16
 
--- numbers 12 and 13, where `place` is the lowest later line that uses the line, or L, and `room` is the output's length
-unfoldable pub afterUse : ℕ → ℕ → ℕ → ℕ → ℕ → Withdrawal
-afterUse T C L room place =
+-- numbers 12 and 13, where `place` is the line that is refused with 12, or L, `new` is the new length and `room` the
+-- output's
+unfoldable pub afterUse : ℕ → ℕ → ℕ → ℕ → Withdrawal
+afterUse L new room place =
     elim (ltb place L) [
       | true ↦ Refused 12 place
-      | false ↦ elim (ltb room (newLength T C L)) [ true ↦ Refused 13 0 | false ↦ Written (newLength T C L) ]
+      | false ↦ elim (ltb room new) [ true ↦ Refused 13 0 | false ↦ Written new ]
     ]
 
 -- number 11, then 12 and 13
@@ -55,7 +52,7 @@ unfoldable pub afterLine : List ℕ → ℕ → ℕ → ℕ → ℕ → ℕ → 
 afterLine bytes T C L n room =
     elim (ltb n L) [
       | false ↦ Refused 11 n
-      | true ↦ afterUse T C L room (firstUse (editionOf bytes) (linesIn bytes T C) L n)
+      | true ↦ afterUse L (newLength T C L) room (firstUse (editionOf bytes) (linesIn bytes T C) L n)
     ]
 
 -- "Withdrawal and finding admit the sheet first and return its refusal, then 11, 12, 13"
@@ -110,14 +107,14 @@ sheetWithout bytes T C L n = bytesOf (listed (newWord bytes (linesStart T C) (li
 unfoldable pub withoutLine : List ℕ → ℕ → List ℕ
 withoutLine bytes n = sheetWithout bytes (trailerOf bytes .terms) (trailerOf bytes .contexts) (trailerOf bytes .lines) n
 
--- "output beyond the new length is untouched, and so is all output on any refusal"
-unfoldable pub outFrom : List ℕ → ℕ → List ℕ → Withdrawal → List ℕ
-outFrom bytes n before (Written _) = over (withoutLine bytes n) before
-outFrom bytes n before (Refused _ _) = before
+-- where this new sheet is written: "output beyond the new length is untouched, and so is all output on any refusal"
+unfoldable pub outFrom : List ℕ → List ℕ → Withdrawal → List ℕ
+outFrom new before (Written _) = over new before
+outFrom new before (Refused _ _) = before
 
 -- the output afterwards, for a sheet, a line's number, a work buffer of so many words and the output before
 unfoldable pub outAfter : List ℕ → ℕ → ℕ → List ℕ → List ℕ
-outAfter bytes n work before = outFrom bytes n before (withdrawOf bytes n work (length before))
+outAfter bytes n work before = outFrom (withoutLine bytes n) before (withdrawOf bytes n work (length before))
 
 -- line p is the lowest line behind line n, of the first L, that has n among its used premises
 pub record LowestUse (edition : ℕ) (lines : List ℕ) (L n p : ℕ) : Type 0 where

@@ -1,6 +1,7 @@
 //! Calls the reference and the proved library with equal arguments and compares all that they leave.
 
 use crate::coverage::Coverage;
+use crate::generate::lists::some_list;
 use crate::random::Random;
 use crate::reference::layout::{Counts, LINE_ROW, MAX_TERMS, TRAILER};
 use crate::reference::reading::Reading;
@@ -8,10 +9,11 @@ use crate::reference::Answer;
 
 /// The calls on a sheet.
 #[derive(Clone, Copy, Debug)]
-pub enum Call {
+pub enum Call<'a> {
     Admit,
     Find([u32; 5]),
     Withdraw(usize),
+    WithdrawSet(&'a [usize]),
     Normal(usize),
 }
 
@@ -63,7 +65,6 @@ pub fn compare(sheet: &[u8], random: &mut Random, coverage: &mut Coverage) -> Ve
         Some(counts) => comparer.compare_on_accepted(counts),
         None => comparer.compare_on_refused(),
     }
-    comparer.compare_withdrawn();
     comparer.differences
 }
 
@@ -93,10 +94,11 @@ impl Comparer<'_> {
             } else {
                 self.random.below(terms)
             };
-            let call = match self.random.below(5) {
+            let call = match self.random.below(6) {
                 0 => Call::Find([0; 5]),
                 1 => Call::Withdraw(0),
-                2 => Call::Normal(self.number(terms)),
+                2 => Call::WithdrawSet(&[0, 0]),
+                3 => Call::Normal(self.number(terms)),
                 _ => Call::Admit,
             };
             self.compare_call(call, short, self.sheet.len());
@@ -105,11 +107,17 @@ impl Comparer<'_> {
 
     fn compare_on_refused(&mut self) {
         let length = self.work_length();
-        match self.random.below(3) {
+        match self.random.below(4) {
             0 => self.compare_call(Call::Find([0, 0, 0, 0, 0]), length, 0),
             1 => {
                 let out = self.random.below(self.sheet.len() + 9);
                 self.compare_call(Call::Withdraw(0), length, out);
+            }
+            2 => {
+                let list = [[].as_slice(), &[0], &[0, 0], &[1, 0], &[0, 1 << 16]];
+                let list = self.random.pick(&list).unwrap_or_default();
+                let out = self.random.below(self.sheet.len() + 9);
+                self.compare_call(Call::WithdrawSet(list), length, out);
             }
             _ => {
                 let term = self.number(self.terms());
@@ -121,6 +129,9 @@ impl Comparer<'_> {
     fn compare_on_accepted(&mut self, counts: Counts) {
         self.compare_searches(counts);
         self.compare_withdrawals(counts);
+        self.compare_withdrawn();
+        self.compare_sets(counts);
+        self.compare_withdrawn();
         self.compare_terms(counts);
     }
 
@@ -136,8 +147,17 @@ impl Comparer<'_> {
         for _ in 0..3 {
             let line = self.number(counts.lines);
             let length = self.work_length();
-            let out = self.out_length();
+            let out = self.out_length(1);
             self.compare_call(Call::Withdraw(line), length, out);
+        }
+    }
+
+    fn compare_sets(&mut self, counts: Counts) {
+        for _ in 0..4 {
+            let list = some_list(self.sheet, counts, self.random);
+            let length = self.work_length();
+            let out = self.out_length(list.len());
+            self.compare_call(Call::WithdrawSet(&list), length, out);
         }
     }
 
@@ -198,15 +218,17 @@ impl Comparer<'_> {
         }
     }
 
-    fn out_length(&mut self) -> usize {
+    /// A length of the output, most likely that of the sheet without so many lines.
+    fn out_length(&mut self, lines: usize) -> usize {
         let old = self.sheet.len();
-        let new = old.saturating_sub(LINE_ROW);
-        match self.random.below(8) {
+        let new = old.saturating_sub(LINE_ROW * lines);
+        match self.random.below(9) {
             0 => new.saturating_sub(1),
             1 => old,
             2 => old + self.random.below(50),
             3 => self.random.below(new.max(TRAILER)),
-            4 => new + self.random.below(20),
+            4 => new + self.random.below(LINE_ROW),
+            5 => 0,
             _ => new,
         }
     }
@@ -220,7 +242,8 @@ impl Comparer<'_> {
         let (wanted, difference) = on_both(self.reading, self.sheet, call, Buffers { work, out });
         self.coverage.add_answer(call, wanted.answer);
         self.differences.extend(difference);
-        if matches!(call, Call::Withdraw(_)) && wanted.answer.number == 0 {
+        let writes = matches!(call, Call::Withdraw(_) | Call::WithdrawSet(_));
+        if writes && wanted.answer.number == 0 {
             self.withdrawn = Some(wanted.written().to_vec());
         }
     }
@@ -245,6 +268,7 @@ fn by_reference(reading: &Reading, sheet: &[u8], call: Call, mut buffers: Buffer
         Call::Admit => reading.admit(work),
         Call::Find(wanted) => reading.find(sheet, work, wanted),
         Call::Withdraw(line) => reading.withdraw(sheet, line, work, out),
+        Call::WithdrawSet(list) => reading.withdraw_set(sheet, list, work, out),
         Call::Normal(term) => reading.normal(term, work),
     };
     Outcome { answer, buffers }
@@ -256,6 +280,7 @@ fn by_library(sheet: &[u8], call: Call, mut buffers: Buffers) -> Outcome {
         Call::Admit => mengyubad::admit(sheet, work),
         Call::Find(wanted) => mengyubad::find(sheet, work, wanted),
         Call::Withdraw(line) => mengyubad::withdraw(sheet, line, work, out),
+        Call::WithdrawSet(list) => mengyubad::withdraw_set(sheet, list, work, out),
         Call::Normal(term) => mengyubad::normal(sheet, term, work),
     };
     Outcome {

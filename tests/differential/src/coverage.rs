@@ -12,7 +12,12 @@ const FULL_RUN: u64 = 100_000;
 const FULL_GOAL: u64 = 1_000;
 
 /// The numbers that a call on a sheet may answer, 0 the successful ones; 15 and 16 are about dates.
-const NUMBERS: [usize; 16] = [0, 1, 2, 3, 4, 5, 6, 7, 8, 9, 10, 11, 12, 13, 14, 17];
+const NUMBERS: [usize; 17] = [0, 1, 2, 3, 4, 5, 6, 7, 8, 9, 10, 11, 12, 13, 14, 17, 18];
+
+/// What sets of lines are counted under.
+const SETS: [&str; 7] = [
+    "empty", "one line", "several", "by 11", "by 12", "by 13", "by 18",
+];
 
 /// Lines by rule; there is no rule 0.
 pub type ByRule = [u64; LAST_RULE as usize + 1];
@@ -27,7 +32,9 @@ pub struct Coverage {
     /// Lines that the generator made as instances and the reference refused.
     pub unfit: u64,
     /// Answers by number over all calls.
-    pub numbers: [u64; 18],
+    pub numbers: [u64; 19],
+    /// Sets of lines of accepted sheets: withdrawn, by how many there are, and refused; as `SETS` says.
+    pub sets: [u64; SETS.len()],
     /// Terms that are not normal, and terms that are.
     pub terms: [u64; 2],
     pub accepted_lines: ByRule,
@@ -44,7 +51,8 @@ impl Default for Coverage {
             calls: 0,
             differences: 0,
             unfit: 0,
-            numbers: [0; 18],
+            numbers: [0; 19],
+            sets: [0; SETS.len()],
             terms: [0; 2],
             accepted_lines: NO_LINES,
             refused_lines: NO_LINES,
@@ -83,8 +91,12 @@ impl Coverage {
     pub fn add_answer(&mut self, call: Call, answer: Answer) {
         self.calls += 1;
         self.numbers[answer.number] += 1;
-        if let (Call::Normal(_), 0) = (call, answer.number) {
-            self.terms[answer.values[0]] += 1;
+        match (call, answer.number) {
+            (Call::Normal(_), 0) => self.terms[answer.values[0]] += 1,
+            (Call::WithdrawSet(list), 0) => self.sets[list.len().min(2)] += 1,
+            (Call::WithdrawSet(_), number @ 11..=13) => self.sets[number - 8] += 1,
+            (Call::WithdrawSet(_), 18) => self.sets[6] += 1,
+            _ => {}
         }
     }
 
@@ -130,6 +142,9 @@ impl Coverage {
         if self.terms.iter().any(|&count| count < goal) {
             missed.push(format!("fewer than {goal} terms are normal, or are not"));
         }
+        if self.sets.iter().any(|&count| count < goal) {
+            missed.push(format!("fewer than {goal} sets of lines of some kind"));
+        }
         for number in NUMBERS.iter().filter(|&&n| self.numbers[n] == 0) {
             missed.push(format!("number {number} was never answered"));
         }
@@ -150,7 +165,7 @@ fn domain(sheet: &[u8], counts: Counts, line: usize) -> usize {
     }
 }
 
-/// The two tables, and the readings of rule 38.
+/// The two tables, the sets of lines, and the readings of rule 38.
 impl Coverage {
     fn write_numbers(&self, f: &mut fmt::Formatter) -> fmt::Result {
         writeln!(f, "number  answers")?;
@@ -159,6 +174,18 @@ impl Coverage {
         }
         let [no, yes] = self.terms;
         writeln!(f, "terms normal {yes}, not normal {no}")
+    }
+
+    fn write_sets(&self, f: &mut fmt::Formatter) -> fmt::Result {
+        let counted = |i: usize| format!("{} {}", SETS[i], self.sets[i]);
+        let all: Vec<String> = (0..SETS.len()).map(counted).collect();
+        let (withdrawn, refused) = all.split_at(3);
+        writeln!(
+            f,
+            "sets withdrawn: {}; refused: {}",
+            withdrawn.join(", "),
+            refused.join(", ")
+        )
     }
 
     fn write_rules(&self, f: &mut fmt::Formatter) -> fmt::Result {
@@ -185,6 +212,7 @@ impl fmt::Display for Coverage {
         writeln!(f, "of edition 1 {first}, of edition 2 {second}")?;
         writeln!(f, "calls compared {}", self.calls)?;
         self.write_numbers(f)?;
+        self.write_sets(f)?;
         self.write_rules(f)?;
         self.write_domains(f)?;
         writeln!(f, "differences {}", self.differences)

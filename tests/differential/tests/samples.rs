@@ -126,6 +126,30 @@ fn withdrawals(text: &mut Vec<String>) {
     }
 }
 
+/// A row is a sheet, the room for the new sheet and the lines. The sheets that are to be left stand one behind the
+/// other in one file.
+fn set_withdrawals(text: &mut Vec<String>) {
+    let results = sheet("withdraw_set.results");
+    let mut expected = &results[..];
+    for row in rows("withdraw_set.list") {
+        let numbers = row[1..].iter().map(|w| w.parse().expect("a number"));
+        let numbers: Vec<usize> = numbers.collect();
+        let (room, list) = (numbers[0].min(MAX_LENGTH), &numbers[1..]);
+        let withdrawn = full(&sheet(&row[0]), Call::WithdrawSet(list), room);
+        let answer = printed(withdrawn.answer, 1);
+        text.push(format!("{} {answer}", row.join(" ")));
+        if withdrawn.answer.number == 0 {
+            let again = full(withdrawn.written(), Call::Admit, 0);
+            text.push(printed(again.answer, 3));
+            let (left, behind) = expected.split_at(withdrawn.written().len());
+            assert_eq!(withdrawn.written(), left, "{row:?}");
+            text.push("as expected".to_string());
+            expected = behind;
+        }
+    }
+    assert!(expected.is_empty());
+}
+
 /// The date of a word `YEAR-MONTH-DAY`.
 fn date(word: &str) -> Date {
     let parts = word.split('-').map(|part| part.parse().expect("a number"));
@@ -184,6 +208,7 @@ fn answers_are_those_of_the_samples() {
     days(&calendar, &mut text);
     normal_terms(&mut text);
     bundled_admissions(&mut text);
+    set_withdrawals(&mut text);
     let wanted: Vec<&str> = wanted.lines().collect();
     assert_eq!(text.len(), wanted.len());
     for (got, wanted) in text.iter().zip(wanted) {
@@ -220,6 +245,19 @@ impl Sample<'_> {
         self.compare(Call::Withdraw(line), words, enough.saturating_sub(1));
     }
 
+    /// Withdraws no line, all lines, the later half and every other line.
+    fn compare_sets(&self, lines: usize, words: usize) {
+        let all: Vec<usize> = (0..lines).collect();
+        let every_other: Vec<usize> = (0..lines).step_by(2).collect();
+        for list in [&[], &all[..], &all[lines / 2..], &every_other] {
+            let length = self.sheet.len();
+            let enough = length.saturating_sub(LINE_ROW * list.len());
+            self.compare(Call::WithdrawSet(list), words, length);
+            self.compare(Call::WithdrawSet(list), words + 1, enough);
+            self.compare(Call::WithdrawSet(list), words, enough.saturating_sub(1));
+        }
+    }
+
     fn compare_all(&self) {
         let (terms, lines) = self
             .reading
@@ -232,6 +270,7 @@ impl Sample<'_> {
         for line in (0..lines).rev().step_by(step).chain([lines]) {
             self.compare_line(line, terms);
         }
+        self.compare_sets(lines, terms);
         // Some hundred terms of a large table, the last among them, and none.
         let asked = (0..terms).rev().step_by(1 + terms / 300);
         for term in asked.chain([terms]) {

@@ -25,14 +25,17 @@ returns c = search needs
 length-in-requires : tie.Need-length-in-requires
 length-in-requires c κs = search needs
 
+slice-aggregate-withdraw-lines : tie.Need-slice-aggregate-withdraw-lines
+slice-aggregate-withdraw-lines c = search needs
+
 array-borrow-prefix-out : tie.Need-array-borrow-prefix-out
 array-borrow-prefix-out c = search needs
 
-slice-aggregate-withdraw-line : tie.Need-slice-aggregate-withdraw-line
-slice-aggregate-withdraw-line c = sym (length-take-le _ _ (c .before .length-in .ensures .1))
+slice-aggregate-withdraw-lines-2 : tie.Need-slice-aggregate-withdraw-lines-2
+slice-aggregate-withdraw-lines-2 c = sym (length-take-le _ _ (c .before .before .length-in .ensures .1))
 
-withdraw-line-requires : tie.Need-withdraw-line-requires
-withdraw-line-requires c κs = search needs
+withdraw-lines-requires : tie.Need-withdraw-lines-requires
+withdraw-lines-requires c κs = search needs
 
 returns-2 : tie.Need-returns-2
 returns-2 c = search needs
@@ -48,7 +51,8 @@ withdraw-number-spec =
     write-all-requires
     returns
     length-in-requires
+    slice-aggregate-withdraw-lines
     array-borrow-prefix-out
-    slice-aggregate-withdraw-line
-    withdraw-line-requires
+    slice-aggregate-withdraw-lines-2
+    withdraw-lines-requires
     returns-2)

@@ -1,4 +1,4 @@
-//! Valid derivations at random and their encoding as sheets; term tables of all kinds.
+//! Valid derivations at random and their encoding as sheets; term tables of all kinds; lists of lines to withdraw.
 
 pub mod arrange;
 pub mod conclusions;
@@ -10,6 +10,7 @@ pub mod grow;
 mod inductions;
 mod infer;
 mod inhabit;
+pub mod lists;
 pub mod maker;
 mod non_instances;
 mod normal_steps;

@@ -1,5 +1,5 @@
-//! The calls: admission, finding, withdrawal and the question whether a term is normal, with what they leave in the
-//! buffers.
+//! The calls: admission, finding, withdrawal of a line and of a set of lines, and the question whether a term is
+//! normal, with what they leave in the buffers.
 
 use super::layout::{set_word, word, Counts, LINE_ROW};
 use super::reading::Reading;
@@ -10,7 +10,6 @@ use super::{done, refused, Answer, Refusal};
 impl Reading {
     /// The counts of an accepted sheet; otherwise the refusal. Writes the work buffer.
     fn accept(&self, work: &mut [u32]) -> Result<Counts, Answer> {
-        let fault = |refusal: Refusal| refused(refusal.number, refusal.place);
         let Some(counts) = self.counts else {
             return Err(self.refusal.map_or(refused(1, 0), fault));
         };
@@ -47,22 +46,25 @@ impl Reading {
     }
 
     pub fn withdraw(&self, sheet: &[u8], line: usize, work: &mut [u32], out: &mut [u8]) -> Answer {
-        let counts = match self.accept(work) {
-            Err(answer) => return answer,
-            Ok(counts) => counts,
-        };
-        if line >= counts.lines {
-            return refused(11, line);
+        match self.accept(work) {
+            Err(answer) => answer,
+            Ok(_) => write(line_away(sheet, line), out),
         }
-        if let Some(user) = (line + 1..counts.lines).find(|&l| uses(sheet, counts, l, line)) {
-            return refused(12, user);
+    }
+
+    /// Withdraws the listed lines.
+    pub fn withdraw_set(
+        &self,
+        sheet: &[u8],
+        list: &[usize],
+        work: &mut [u32],
+        out: &mut [u8],
+    ) -> Answer {
+        match self.accept(work) {
+            Err(answer) => answer,
+            Ok(_) if list.windows(2).any(|pair| pair[0] >= pair[1]) => refused(18, 0),
+            Ok(_) => write(lines_away(sheet, list), out),
         }
-        let new = without(sheet, counts, line);
-        if out.len() < new.len() {
-            return refused(13, 0);
-        }
-        out[..new.len()].copy_from_slice(&new);
-        done(new.len())
     }
 
     /// 1 if the term is normal, 0 if it is not.
@@ -77,6 +79,65 @@ impl Reading {
     }
 }
 
+fn fault(refusal: Refusal) -> Answer {
+    refused(refusal.number, refusal.place)
+}
+
+/// Number 13 if the output is too short for a new sheet.
+fn write(new: Result<Vec<u8>, Refusal>, out: &mut [u8]) -> Answer {
+    match new {
+        Err(refusal) => fault(refusal),
+        Ok(new) if out.len() < new.len() => refused(13, 0),
+        Ok(new) => {
+            out[..new.len()].copy_from_slice(&new);
+            done(new.len())
+        }
+    }
+}
+
+/// An admitted sheet after single withdrawals from the highest number down, each with an output of enough length; or
+/// what the first of them that is refused is refused for, a line in the numbering of the sheet given.
+fn lines_away(sheet: &[u8], list: &[usize]) -> Result<Vec<u8>, Refusal> {
+    let mut left = sheet.to_vec();
+    for (place, &line) in list.iter().enumerate().rev() {
+        left = line_away(&left, line).map_err(|refusal| match refusal.number {
+            12 => Refusal {
+                number: 12,
+                place: numbered_before(refusal.place, &list[place + 1..]),
+            },
+            _ => refusal,
+        })?;
+    }
+    Ok(left)
+}
+
+/// The number that a line had before these were withdrawn, the lowest of them last: its own withdrawal lowered the
+/// numbers above it by 1.
+fn numbered_before(line: usize, withdrawn: &[usize]) -> usize {
+    withdrawn
+        .iter()
+        .fold(line, |number, &gone| number + usize::from(number >= gone))
+}
+
+/// An admitted sheet after the withdrawal of a line, with an output of enough length.
+fn line_away(sheet: &[u8], line: usize) -> Result<Vec<u8>, Refusal> {
+    let counts = Counts::stated(sheet);
+    if line >= counts.lines {
+        return Err(Refusal {
+            number: 11,
+            place: line,
+        });
+    }
+    let uses = |&user: &usize| cited(sheet, counts, user).contains(&line);
+    match (line + 1..counts.lines).find(uses) {
+        Some(user) => Err(Refusal {
+            number: 12,
+            place: user,
+        }),
+        None => Ok(without(sheet, counts, line)),
+    }
+}
+
 /// The bytes where a line's used premises stand.
 fn premise_places(sheet: &[u8], counts: Counts, line: usize) -> Vec<usize> {
     let at = counts.line_at(line);
@@ -84,11 +145,11 @@ fn premise_places(sheet: &[u8], counts: Counts, line: usize) -> Vec<usize> {
     (0..premise_count(rule)).map(|i| at + 12 + 2 * i).collect()
 }
 
-fn uses(sheet: &[u8], counts: Counts, line: usize, premise: usize) -> bool {
+/// The lines that a line cites.
+pub fn cited(sheet: &[u8], counts: Counts, line: usize) -> Vec<usize> {
     let places = premise_places(sheet, counts, line);
-    places
-        .iter()
-        .any(|&at| usize::from(word(sheet, at)) == premise)
+    let number = |&at: &usize| usize::from(word(sheet, at));
+    places.iter().map(number).collect()
 }
 
 /// The sheet without a line that no line uses.

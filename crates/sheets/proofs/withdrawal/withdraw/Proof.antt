@@ -1,57 +1,29 @@
-use mathlib.Core.List.{[]}
-use Rattle.sheets.proofs.WithdrawalAnswers.{kept, handed-on, admitted-good, gone-on}
+use mathlib.Core.Path.{sym, _∙_}
+use Rattle.sheets.proofs.OneLineLaws.{single-answer, single-out, single-keeps}
 use borrow.Author.Needs.{needs}
 use Rattle.sheets.proofs.withdrawal.withdraw.Statement.{statement}
 use Rattle.sheets.proofs.withdrawal.withdraw.Tie as tie
 
-admit-requires : tie.Need-admit-requires
-admit-requires c κs = search needs
+slice-aggregate-withdraw-set : tie.Need-slice-aggregate-withdraw-set
+slice-aggregate-withdraw-set c = search needs
 
-enum-known-number : tie.Need-enum-known-number
-enum-known-number c = search needs
-
-enum-known-terms : tie.Need-enum-known-terms
-enum-known-terms c = search needs
-
-withdraw-line-requires : tie.Need-withdraw-line-requires
-withdraw-line-requires c κs =
-    let c6 = c .before .before .before .before .before .before in
-    admitted-good _ 0 _ [] _ (c6 .admit .ensures .0) _ _ _ (c .before .before .terms .given .1)
+withdraw-set-requires : tie.Need-withdraw-set-requires
+withdraw-set-requires c κs = search needs
 
 same-length : tie.Need-same-length
 same-length c = search needs
 
-returns : tie.Need-returns
-returns c =
-    let h = handed-on _ _ _ _ _ (c .before .before .before .before .before .admit .ensures .0) _ _
-    (c .before .number .given .1) in
-    let c3 = c .before .before .before in
-    (h .0, (c3 .before .before .admit .ensures .1, (h .1, kept _ _ _ _ _ _ (h .0) (h .1))))
-
 same-length-2 : tie.Need-same-length-2
 same-length-2 c = search needs
 
-same-length-3 : tie.Need-same-length-3
-same-length-3 c = search needs
-
-returns-2 : tie.Need-returns-2
-returns-2 c =
-    let h = gone-on _ _ _ _ _ (c .before .before .before .before .before .before .before .before .before .admit .ensures .0) _
-    _ _ (c .before .before .before .before .before .terms .given .1) _ _
-    (c .before .before .withdraw-line .ensures .0) (c .before .before .withdraw-line .ensures .1) in
-    let c9 = c .before .before .before .before .before .before .before .before .before in
-    (h .0, (c9 .admit .ensures .1, (h .1, kept _ _ _ _ _ _ (h .0) (h .1))))
+returns : tie.Need-returns
+returns c =
+    let all = c .before .before .before .before .withdraw-set .ensures in (
+      all .0 ∙ sym (single-answer _ _ _ _),
+      (all .1 .0, (all .1 .1 .0 ∙ sym (single-out _ _ _ _), single-keeps _ _ _ _ (all .1 .1 .1))),
+    )
 
 pub withdraw-spec : {M : Type 1} → statement M
 withdraw-spec =
     tie.close
-    (tie.spec
-    admit-requires
-    enum-known-number
-    enum-known-terms
-    withdraw-line-requires
-    same-length
-    returns
-    same-length-2
-    same-length-3
-    returns-2)
+    (tie.spec slice-aggregate-withdraw-set withdraw-set-requires same-length same-length-2 returns)
