@@ -1,6 +1,6 @@
 /*
- * Mengyubad: admission of derivation sheets, finding and withdrawal of a line, withdrawal of a set of lines, marking of
- * normal terms, day numbers and reading windows.
+ * Mengyubad: admission of derivation sheets, finding of a judgment or a batch of judgments, withdrawal of a line or a
+ * set of lines, marking of normal terms, day numbers and reading windows.
  *
  * Link libmengyubad.a (`rt staticlib mengyubad` writes it to target/staticlib; x86-64). What each function answers and
  * leaves in the buffers is proved: the contracts stand in crates/mengyubad/src/lib.rt, and the comments here say them
@@ -13,15 +13,16 @@
  * Stack: terms are walked by recursion, at most 3,072 levels deep. Measured on admission, which the other functions on
  * sheets begin with, by tests/c/stack.c: a level takes 240 bytes where a term is substituted in and fewer where it is
  * raised, and the rest 12.7 KB, so that 3,072 levels take 750 KB. The deepest walk of a sheet that it builds, some
- * 2,030 levels, takes 452 KB. Withdrawal, of a line or of a set, takes 5 KB more, 755 KB at 3,072 levels. A normal term
- * of 3,072 levels is marked in 642 KB, measured there too. The two functions on dates walk no terms and need little
- * stack.
+ * 2,030 levels, takes 452 KB. A batch takes 0.1 KB more; withdrawal, of a line or of a set, takes 5 KB more, 755 KB at
+ * 3,072 levels. A normal term of 3,072 levels is marked in 642 KB, measured there too. The two functions on dates walk
+ * no terms and need little stack.
  *
  * Every function returns 0, or the number of a refusal, and sets all three words of `values`:
- *   0       mengyubad_admit: T, C, L; mengyubad_find: the line, 0, 0; mengyubad_withdraw, mengyubad_withdraw_set: the
- *           new length, 0, 0; mengyubad_normal: 1 for yes or 0 for no, 0, 0; mengyubad_day_number: the day number,
- *           0, 0; mengyubad_window: 1 for open or 0 for closed, 0, 0
- *   1 to 18 the place, 0, 0
+ *   0       mengyubad_admit: T, C, L; mengyubad_find: the line, 0, 0; mengyubad_find_all: the number of judgments,
+ *           0, 0; mengyubad_withdraw, mengyubad_withdraw_set: the new length, 0, 0; mengyubad_normal: 1 for yes or 0
+ *           for no, 0, 0; mengyubad_day_number: the day number, 0, 0; mengyubad_window: 1 for open or 0 for closed,
+ *           0, 0
+ *   1 to 19 the place, 0, 0
  *
  * The work buffer takes the sizes of the terms, one word each; MENGYUBAD_MOST_TERMS words serve every sheet. What it
  * held does not matter. Afterwards:
@@ -73,8 +74,12 @@ enum mengyubad_number {
     MENGYUBAD_NO_DATE = 15,         /* a date that does not exist, or outside 1970 to 2199: 0 */
     MENGYUBAD_NO_DAYS = 16,         /* a window whose last date is before its first: 0 */
     MENGYUBAD_NO_TERM = 17,         /* a term number not below T: the term number */
-    MENGYUBAD_NOT_RISING = 18       /* withdrawal of a set, a list of lines that does not rise strictly: 0 */
+    MENGYUBAD_NOT_RISING = 18,      /* withdrawal of a set, a list of lines that does not rise strictly: 0 */
+    MENGYUBAD_ANSWERS_SHORT = 19    /* batch, fewer words for answers than judgments: 0 */
 };
+
+/* A batch's answer for a judgment that no line states. */
+enum { MENGYUBAD_ABSENT = 65535 };
 
 /* Admits a sheet. Returns 0 or 1 to 10. */
 size_t mengyubad_admit(const uint8_t *sheet, size_t sheet_length, uint32_t *work, size_t work_words, size_t values[3]);
@@ -85,6 +90,17 @@ size_t mengyubad_admit(const uint8_t *sheet, size_t sheet_length, uint32_t *work
  */
 size_t mengyubad_find(const uint8_t *sheet, size_t sheet_length, uint32_t *work, size_t work_words,
                       const uint32_t wanted[5], size_t values[3]);
+
+/*
+ * Admits a sheet once, then finds each judgment of a list. `wanted` has five words for each, as mengyubad_find takes
+ * them; words that make no whole judgment do not count. Word i of `answers` is the line that mengyubad_find gives for
+ * judgment i, or MENGYUBAD_ABSENT where that gives 14. Returns 0, 1 to 10, or 19 if `answers` has fewer words than
+ * there are judgments; for an empty list it may have none. Words of `answers` beyond the list are as they were, and on
+ * any refusal so is all of `answers`.
+ */
+size_t mengyubad_find_all(const uint8_t *sheet, size_t sheet_length, uint32_t *work, size_t work_words,
+                          const uint32_t *wanted, size_t wanted_words, uint16_t *answers, size_t answer_words,
+                          size_t values[3]);
 
 /*
  * Admits a sheet, then writes it to `out` without line `line`: premises above the line are lowered by 1, the count of

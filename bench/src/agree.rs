@@ -1,28 +1,30 @@
 //! The two sides must answer alike, buffers included.
 
+use crate::calls::{Buffers, Call};
 use crate::dates::Question;
-use crate::inputs::{Call, Input};
+use crate::inputs::Input;
 use crate::tuned::Checker;
 use mengyubad::Answer;
 
-/// What a call leaves: the answer, the work buffer and the output.
-type Outcome = (Answer, Vec<u32>, Vec<u8>);
+/// The answer of a call and what it leaves in the buffers.
+type Outcome = (Answer, Buffers);
 
 const WORK: u32 = 0xA5A5_A5A5;
 const OUT: u8 = 0x5A;
+/// As in the list of the samples' answers.
+const ANSWER: u16 = 50505;
 
 /// What a call leaves in buffers of these lengths.
-fn outcome(
-    words: usize,
-    room: usize,
-    call: impl FnOnce(&mut [u32], &mut [u8]) -> Answer,
-) -> Outcome {
-    let (mut work, mut out) = (vec![WORK; words], vec![OUT; room]);
-    let answer = call(&mut work, &mut out);
-    (answer, work, out)
+fn outcome(words: usize, room: usize, call: impl FnOnce(&mut Buffers) -> Answer) -> Outcome {
+    let mut buffers = Buffers {
+        work: vec![WORK; words],
+        out: vec![OUT; room],
+        answers: vec![ANSWER; room],
+    };
+    (call(&mut buffers), buffers)
 }
 
-/// What both sides leave; as text how they differ, if they do.
+/// What both sides leave, with so much room for what the call writes; as text how they differ, if they do.
 pub fn alike(
     checker: &mut Checker,
     sheet: &[u8],
@@ -30,10 +32,8 @@ pub fn alike(
     words: usize,
     room: usize,
 ) -> Result<Outcome, String> {
-    let one = outcome(words, room, |work, out| call.proved(sheet, work, out));
-    let other = outcome(words, room, |work, out| {
-        call.tuned(checker, sheet, work, out)
-    });
+    let one = outcome(words, room, |buffers| call.proved(sheet, buffers));
+    let other = outcome(words, room, |buffers| call.tuned(checker, sheet, buffers));
     if one != other {
         return Err(format!("proved {:?}, tuned {:?}", one.0, other.0));
     }

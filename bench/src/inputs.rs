@@ -1,48 +1,9 @@
 //! What is measured: single inputs, and sweeps over one size.
 
+use crate::calls::Call;
 use crate::sheets;
 use crate::tuned::Checker;
-use mengyubad::Answer;
 use std::cmp::Reverse;
-
-/// What is asked of a sheet.
-pub enum Call {
-    Admit,
-    Find([u32; 5]),
-    Withdraw(usize),
-    WithdrawSet(Vec<usize>),
-    Normal(usize),
-}
-
-impl Call {
-    /// Asks the proved library.
-    pub fn proved(&self, sheet: &[u8], work: &mut [u32], out: &mut [u8]) -> Answer {
-        match self {
-            Call::Admit => mengyubad::admit(sheet, work),
-            Call::Find(wanted) => mengyubad::find(sheet, work, *wanted),
-            Call::Withdraw(n) => mengyubad::withdraw(sheet, *n, work, out),
-            Call::WithdrawSet(list) => mengyubad::withdraw_set(sheet, list, work, out),
-            Call::Normal(term) => mengyubad::normal(sheet, *term, work),
-        }
-    }
-
-    /// Asks the tuned checker.
-    pub fn tuned(
-        &self,
-        checker: &mut Checker,
-        sheet: &[u8],
-        work: &mut [u32],
-        out: &mut [u8],
-    ) -> Answer {
-        match self {
-            Call::Admit => checker.admit(sheet, work),
-            Call::Find(wanted) => checker.find(sheet, work, *wanted),
-            Call::Withdraw(n) => checker.withdraw(sheet, *n, work, out),
-            Call::WithdrawSet(list) => checker.withdraw_set(sheet, list, work, out),
-            Call::Normal(term) => checker.normal(sheet, *term, work),
-        }
-    }
-}
 
 pub struct Input {
     pub name: String,
@@ -68,6 +29,16 @@ fn admit(name: &str, sheet: Vec<u8>) -> Input {
     }
 }
 
+/// The judgments of the last so many lines, as far as there are bytes for them.
+pub fn judgments(sheet: &[u8], lines: usize) -> Vec<[u32; 5]> {
+    let end = sheet.len().saturating_sub(16);
+    let rows = sheet[end.saturating_sub(20 * lines)..end].chunks_exact(20);
+    let judgment = |row: &[u8]| {
+        [0, 2, 3, 4, 5].map(|j| u32::from(u16::from_le_bytes([row[2 * j], row[2 * j + 1]])))
+    };
+    rows.map(judgment).collect()
+}
+
 /// The normal term with the most nodes.
 fn largest_normal(sheet: &[u8]) -> usize {
     let mut checker = Checker::new();
@@ -86,12 +57,6 @@ impl Input {
         [0, 2, 4].map(|j| usize::from(u16::from_le_bytes([trailer[j], trailer[j + 1]])))
     }
 
-    /// The judgment of the last line.
-    fn last_judgment(&self) -> [u32; 5] {
-        let line = &self.sheet[self.sheet.len() - 36..];
-        [0, 2, 3, 4, 5].map(|j| u32::from(u16::from_le_bytes([line[2 * j], line[2 * j + 1]])))
-    }
-
     /// Another call on the sheet that is admitted.
     fn with(&self, word: &str, call: Call) -> Input {
         Input {
@@ -105,6 +70,31 @@ impl Input {
     /// The question whether the normal term with the most nodes is normal.
     fn normal(&self) -> Input {
         self.with("normal in", Call::Normal(largest_normal(&self.sheet)))
+    }
+
+    /// Finding a batch of judgments, those of lines that lie evenly in the sheet: at once, one by one, and at once with
+    /// another s3, so that no line states them.
+    fn batches(&self) -> [Input; 3] {
+        let [_, _, lines] = self.counts();
+        let all = judgments(&self.sheet, lines);
+        let stated = |i: usize| all[(2 * i + 1) * lines / (2 * BATCH)];
+        let stated: Vec<[u32; 5]> = (0..BATCH).map(stated).collect();
+        let absent: Vec<[u32; 5]> = stated
+            .iter()
+            .map(|&[form, context, s1, s2, _]| [form, context, s1, s2, 0xFFFF])
+            .collect();
+        let input = |word: &str, call| self.with(&format!("find {word} in"), call);
+        [
+            input(&format!("batch of {BATCH}"), Call::FindAll(stated.concat())),
+            input(
+                &format!("{BATCH} singly"),
+                Call::FindSingly(stated.concat()),
+            ),
+            input(
+                &format!("batch of {BATCH} absent"),
+                Call::FindAll(absent.concat()),
+            ),
+        ]
     }
 
     /// A set of so many lines that no other line cites: from the last line down those that can be in it, but for each
@@ -153,12 +143,16 @@ impl Input {
     /// The admission, a search for the last line's judgment, the withdrawal of the last line, and `normal`.
     fn all_calls(self) -> [Input; 4] {
         let [_, _, lines] = self.counts();
-        let find = self.with("find in", Call::Find(self.last_judgment()));
+        let last = judgments(&self.sheet, 1)[0];
+        let find = self.with("find in", Call::Find(last));
         let withdraw = self.with("withdraw from", Call::Withdraw(lines - 1));
         let normal = self.normal();
         [self, find, withdraw, normal]
     }
 }
+
+/// How many judgments a batch has.
+pub const BATCH: usize = 64;
 
 /// A sheet by doublings, terms and lines.
 type Build = fn(u32, usize, usize) -> Vec<u8>;
@@ -170,9 +164,12 @@ pub fn single() -> Vec<Input> {
     let typical = admit("typical", sheets::typical());
     let full = admit("full", sheets::plausible(3072, 256, 1024));
     let mut all = vec![admit("S", sheets::sample())];
+    let batches = typical.batches();
     all.extend(typical.all_calls());
-    let sets = full.sets();
+    all.extend(batches);
+    let (batches, sets) = (full.batches(), full.sets());
     all.extend(full.all_calls());
+    all.extend(batches);
     all.extend(sets);
     all.push(admit("equal heads", sheets::equal_heads(3072, 256, 1024)));
     all.push(admit("one bucket", sheets::one_bucket()));

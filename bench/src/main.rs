@@ -2,6 +2,7 @@
 //! the first table that have it in their name.
 
 mod agree;
+mod calls;
 mod dates;
 mod inputs;
 mod measure;

@@ -1,7 +1,8 @@
 //! Times of the proved library and of the tuned checker on one input, taken in turn.
 
+use crate::calls::Buffers;
 use crate::dates::Question;
-use crate::inputs::Input;
+use crate::inputs::{Input, BATCH};
 use crate::report::Measured;
 use crate::tuned::Checker;
 use mengyubad::Answer;
@@ -18,28 +19,31 @@ pub const LONG: Duration = Duration::from_millis(50);
 /// Both sides and their buffers, which are allocated once and not cleared.
 pub struct Bench {
     pub checker: Checker,
-    work: Vec<u32>,
-    out: Vec<u8>,
+    buffers: Buffers,
 }
 
 impl Bench {
     pub fn new() -> Self {
         Bench {
             checker: Checker::new(),
-            work: vec![0; 3072],
-            out: vec![0; 52_240],
+            buffers: Buffers {
+                work: vec![0; 3072],
+                out: vec![0; 52_240],
+                answers: vec![0; BATCH],
+            },
         }
     }
 
     fn proved(&mut self, input: &Input) -> Answer {
         let sheet = black_box(&input.sheet[..]);
-        input.call.proved(sheet, &mut self.work, &mut self.out)
+        input.call.proved(sheet, &mut self.buffers)
     }
 
     fn tuned(&mut self, input: &Input) -> Answer {
         let sheet = black_box(&input.sheet[..]);
-        let (checker, work, out) = (&mut self.checker, &mut self.work, &mut self.out);
-        input.call.tuned(checker, sheet, work, out)
+        input
+            .call
+            .tuned(&mut self.checker, sheet, &mut self.buffers)
     }
 
     pub fn measure(&mut self, input: &Input) -> Measured {

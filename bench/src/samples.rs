@@ -1,8 +1,9 @@
-//! Tests: the sample sheets and their terms with their known answers, sets of their lines, and damaged sheets, on both
-//! sides.
+//! Tests: the sample sheets and their terms with their known answers, batches of their judgments, sets of their lines,
+//! and damaged sheets, on both sides.
 
 use crate::agree;
-use crate::inputs::Call;
+use crate::calls::{Buffers, Call};
+use crate::inputs::judgments;
 use crate::random::Random;
 use crate::sheets;
 use crate::tuned::Checker;
@@ -23,10 +24,30 @@ fn entries(folder: &Path) -> impl Iterator<Item = PathBuf> {
     entries.map(|entry| entry.expect("an entry").path())
 }
 
+/// The text of a list.
+fn list(name: &str) -> String {
+    String::from_utf8(sample(name)).expect("a list")
+}
+
+/// The batches of the lists, each by its first line and the words of its judgments, which stand in the lines behind it.
+fn batches() -> Vec<(String, Vec<u32>)> {
+    let text = list("batch.list") + &list("batch_lowest.list");
+    let mut lines = text.lines();
+    let mut batches = Vec::new();
+    while let Some(line) = lines.next() {
+        let count = line.split(' ').nth(2).expect("a count");
+        let judgments = lines.by_ref().take(count.parse().expect("a number"));
+        let words = judgments.flat_map(|judgment| judgment.split(' '));
+        let words = words.map(|word| word.parse().expect("a number"));
+        batches.push((line.to_string(), words.collect()));
+    }
+    batches
+}
+
 /// The sheets of the bundle, which stand one behind the other, with the lines of its list: name and length.
 fn bundled() -> Vec<(String, Vec<u8>)> {
     let bundle = sample("normalisation.sheets");
-    let list = String::from_utf8(sample("normalisation.list")).expect("a list");
+    let list = list("normalisation.list");
     let mut left = &bundle[..];
     let mut sheets = Vec::new();
     for line in list.lines() {
@@ -52,13 +73,14 @@ fn samples() -> Vec<Vec<u8>> {
 }
 
 /// The parts of the list of answers, in their order: on sheets and their lines, on dates, on terms, on the bundle, on
-/// sets of lines.
+/// sets of lines, on batches.
 pub enum Part {
     Sheets,
     Dates,
     Terms,
     Bundle,
     Sets,
+    Batches,
 }
 
 /// The lines of a part. Dates have hyphens; names of sheets have none, and those of the bundle no ending.
@@ -75,12 +97,14 @@ pub fn listed(part: Part) -> Vec<String> {
     };
     let bundle = after(behind, &|line| !on_file(line));
     let sets = after(bundle, &on_file);
+    let on_batches = lines.len() - batches().len();
     match part {
         Part::Sheets => lines[..first].to_vec(),
         Part::Dates => lines[first..behind].to_vec(),
         Part::Terms => lines[behind..bundle].to_vec(),
         Part::Bundle => lines[bundle..sets].to_vec(),
-        Part::Sets => lines[sets..].to_vec(),
+        Part::Sets => lines[sets..on_batches].to_vec(),
+        Part::Batches => lines[on_batches..].to_vec(),
     }
 }
 
@@ -94,17 +118,15 @@ pub fn printed(answer: Answer, values: usize) -> String {
     format!("{word} {}", numbers.join(" "))
 }
 
-/// The answer and the output, once both sides leave the same behind.
+/// The answer and the buffers, once both sides leave the same behind.
 fn alike(
     checker: &mut Checker,
     sheet: &[u8],
     call: &Call,
     words: usize,
     room: usize,
-) -> (Answer, Vec<u8>) {
-    let (answer, _, out) =
-        agree::alike(checker, sheet, call, words, room).expect("equal answers and buffers");
-    (answer, out)
+) -> (Answer, Buffers) {
+    agree::alike(checker, sheet, call, words, room).expect("equal answers and buffers")
 }
 
 /// The numbers of terms and lines that a trailer states, if there is one.
@@ -150,10 +172,10 @@ fn samples_are_answered_as_listed() {
             .skip(1)
             .map(|w| w.parse().expect("a number"));
         let (call, values, room) = asked(&numbers.collect::<Vec<usize>>());
-        let (answer, out) = alike(&mut checker, &sheet, &call, 3072, room);
+        let (answer, buffers) = alike(&mut checker, &sheet, &call, 3072, room);
         assert_eq!(printed(answer, values), words[at..].join(" "), "{line}");
         if let (Call::Withdraw(_), 0) = (call, answer.number) {
-            written = out[..answer.values[0]].to_vec();
+            written = buffers.out[..answer.values[0]].to_vec();
         }
     }
 }
@@ -219,10 +241,10 @@ fn set_as_listed(checker: &mut Checker, words: &[&str]) -> Vec<u8> {
     let numbers: Vec<usize> = numbers.collect();
     let call = Call::WithdrawSet(numbers[1..].to_vec());
     let room = numbers[0].min(52240);
-    let (given, out) = alike(checker, &sample(words[0]), &call, 3072, room);
+    let (given, buffers) = alike(checker, &sample(words[0]), &call, 3072, room);
     assert_eq!(printed(given, 1), answer.join(" "), "{words:?}");
     match given.number {
-        0 => out[..given.values[0]].to_vec(),
+        0 => buffers.out[..given.values[0]].to_vec(),
         _ => Vec::new(),
     }
 }
@@ -236,11 +258,28 @@ fn answer_length(words: &[&str]) -> usize {
     }
 }
 
+/// A line of the list is a sheet, the room for answers, the number of judgments, the answer and every word of the
+/// answers.
+#[test]
+fn batches_are_answered_as_listed() {
+    let mut checker = Checker::new();
+    for ((question, wanted), line) in batches().into_iter().zip(listed(Part::Batches)) {
+        let words: Vec<&str> = question.split(' ').collect();
+        let (sheet, room) = (sample(words[0]), words[1].parse().expect("a number"));
+        let call = Call::FindAll(wanted);
+        let (answer, buffers) = alike(&mut checker, &sheet, &call, 3072, room);
+        let mut answers = vec![printed(answer, 1)];
+        answers.extend(buffers.answers.iter().map(u16::to_string));
+        assert_eq!(format!("{question} {}", answers.join(" ")), line);
+    }
+}
+
 #[test]
 fn lines_and_terms_of_the_samples_are_answered_alike() {
     let mut checker = Checker::new();
     for sheet in samples() {
         lines_are_alike(&mut checker, &sheet);
+        batches_are_alike(&mut checker, &sheet);
         sets_are_alike(&mut checker, &sheet);
         terms_are_alike(&mut checker, &sheet);
     }
@@ -259,6 +298,26 @@ fn lines_are_alike(checker: &mut Checker, sheet: &[u8]) {
         alike(Call::Withdraw(n), terms, length);
         alike(Call::Withdraw(n), terms + 1, length.saturating_sub(20));
         alike(Call::Withdraw(n), terms, length.saturating_sub(21));
+    }
+}
+
+/// The judgments of all lines, then those that the same words make from the fourth on, some at the end being left over.
+/// In small sheets single searches find the same.
+fn batches_are_alike(checker: &mut Checker, sheet: &[u8]) {
+    let (terms, lines) = stated(sheet);
+    let words = judgments(sheet, lines).concat();
+    for wanted in [&words[..], &words[words.len().min(3)..]] {
+        let count = wanted.len() / 5;
+        let call = Call::FindAll(wanted.to_vec());
+        for room in [count + 2, count.saturating_sub(1)] {
+            alike(checker, sheet, &call, terms, room);
+        }
+        let (answer, at_once) = alike(checker, sheet, &call, terms, count);
+        if answer.number == 0 && count <= 200 {
+            let call = Call::FindSingly(wanted.to_vec());
+            let (_, singly) = alike(checker, sheet, &call, terms, count);
+            assert_eq!(at_once.answers, singly.answers);
+        }
     }
 }
 
@@ -320,17 +379,25 @@ fn damaged_sheets_are_answered_alike() {
     all.push(sheets::induction_steps(4, 0, 400));
     all.push(sheets::normalisation(0, 200));
     let mut checker = Checker::new();
-    let mut answered = [0; 19];
+    let mut answered = [0; 20];
     for round in 0..40_000 {
         let sheet = damaged(&all[round % all.len()], &mut random);
-        let call = match random.below(3) {
-            0 => Call::Withdraw(random.below(30)),
-            1 => Call::WithdrawSet(vec![random.below(30), random.below(60)]),
-            _ => Call::Normal(random.below(30)),
+        let enough = sheet.len();
+        let (call, room) = match random.below(4) {
+            0 => (Call::Withdraw(random.below(30)), enough),
+            1 => {
+                let list = vec![random.below(30), random.below(60)];
+                (Call::WithdrawSet(list), enough)
+            }
+            2 => {
+                let wanted = judgments(&sheet, random.below(8)).concat();
+                (Call::FindAll(wanted), random.below(8))
+            }
+            _ => (Call::Normal(random.below(30)), 0),
         };
-        let (answer, _) = alike(&mut checker, &sheet, &call, 3072, sheet.len());
+        let (answer, _) = alike(&mut checker, &sheet, &call, 3072, room);
         answered[answer.number] += 1;
     }
-    let expected = [0, 2, 3, 5, 6, 8, 9, 10, 11, 12, 17, 18];
+    let expected = [0, 2, 3, 5, 6, 8, 9, 10, 11, 12, 17, 18, 19];
     assert!(expected.iter().all(|&n| answered[n] > 0), "{answered:?}");
 }

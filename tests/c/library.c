@@ -1,7 +1,7 @@
 /*
- * Calls the library from C: admits S, finds a judgment, withdraws a line and sets of lines, marks normal terms, numbers
- * days and asks windows. Prints nothing if all is as document 01 says, and for dates, normal terms, editions and sets
- * of lines document 02, A1, A2, A5 and A6.
+ * Calls the library from C: admits S, finds a judgment and batches of judgments, withdraws a line and sets of lines,
+ * marks normal terms, numbers days and asks windows. Prints nothing if all is as document 01 says, and for dates,
+ * normal terms, editions, sets of lines and batches document 02, A1, A2, A5, A6 and A7.
  */
 #include <inttypes.h>
 #include <stdio.h>
@@ -116,6 +116,57 @@ static void finds(const uint8_t *s)
     const uint32_t nothing[5] = {1, 0, 3, 0, 65536 + 4};
     expect("lambda(2) : Pi(0, 0)", mengyubad_find(s, S_BYTES, work, WORDS, identity, values), values, MENGYUBAD_OK, 4, 0, 0);
     expect("no such judgment", mengyubad_find(s, S_BYTES, work, WORDS, nothing, values), values, MENGYUBAD_NOT_FOUND, 0, 0, 0);
+}
+
+/* Batches put to S, and to S with line 4 citing itself (M7). */
+static void finds_all(const uint8_t *s)
+{
+    enum { ROOM = 8, NONE = MENGYUBAD_ABSENT };
+    static const uint32_t wanted[] = {
+        1, 0, 3, 0, 4, 1, 0, 3, 0, 65536 + 4, 0, 0, 0, 0, 0, 5, 0, 0, 0, 0, 1, 0, 3, 0, 4, 0, 1, 0, 0, 0, /* six */
+        1, 1, 2, 0                                                                                       /* left over */
+    };
+    static const uint16_t lines[] = {4, NONE, 0, NONE, 4, 2};
+    uint8_t m7[S_BYTES];
+    memcpy(m7, s, S_BYTES);
+    m7[146] = 4; /* the premise of line 4 */
+    const struct {
+        const char *what;
+        const uint8_t *sheet;
+        size_t length, words, wanted_words, room, number, value;
+        const uint32_t *left;
+    } cases[] = {
+        {"six judgments", s, S_BYTES, 5, 30, 6, MENGYUBAD_OK, 6, sizes},
+        {"six judgments, more room", s, S_BYTES, WORDS, 30, ROOM, MENGYUBAD_OK, 6, sizes},
+        {"four words left over", s, S_BYTES, 5, 34, 6, MENGYUBAD_OK, 6, sizes},
+        {"one word left over", s, S_BYTES, WORDS, 6, ROOM, MENGYUBAD_OK, 1, sizes},
+        {"no whole judgment", s, S_BYTES, 5, 4, 0, MENGYUBAD_OK, 0, sizes},
+        {"empty list", s, S_BYTES, 5, 0, 0, MENGYUBAD_OK, 0, sizes},
+        {"empty list, more room", s, S_BYTES, WORDS, 0, ROOM, MENGYUBAD_OK, 0, sizes},
+        {"room for five", s, S_BYTES, 5, 30, 5, MENGYUBAD_ANSWERS_SHORT, 0, sizes},
+        {"room for none", s, S_BYTES, WORDS, 5, 0, MENGYUBAD_ANSWERS_SHORT, 0, sizes},
+        {"batch, 15 bytes", s, 15, WORDS, 30, 6, MENGYUBAD_LENGTH, 0, poison},
+        {"room for five, 15 bytes", s, 15, WORDS, 30, 5, MENGYUBAD_LENGTH, 0, poison},
+        {"room for five, 4 words", s, S_BYTES, 4, 30, 5, MENGYUBAD_WORK_SHORT, 0, poison},
+        {"batch, M7", m7, S_BYTES, WORDS, 30, ROOM, MENGYUBAD_LINE, 4, sizes},
+        {"room for five, M7", m7, S_BYTES, 5, 30, 5, MENGYUBAD_LINE, 4, sizes},
+        {"empty list, M7", m7, S_BYTES, 5, 0, 0, MENGYUBAD_LINE, 4, sizes}
+    };
+    for (size_t i = 0; i < sizeof cases / sizeof *cases; i++) {
+        uint32_t work[WORDS];
+        uint16_t answers[ROOM], left[ROOM];
+        size_t values[3] = {9, 9, 9};
+        memcpy(work, poison, sizeof work);
+        memset(answers, 0xA5, sizeof answers);
+        memset(left, 0xA5, sizeof left);
+        if (cases[i].number == MENGYUBAD_OK)
+            memcpy(left, lines, cases[i].value * sizeof *lines);
+        const size_t number = mengyubad_find_all(cases[i].sheet, cases[i].length, work, cases[i].words, wanted,
+                                                 cases[i].wanted_words, answers, cases[i].room, values);
+        expect(cases[i].what, number, values, cases[i].number, cases[i].value, 0, 0);
+        expect_same(cases[i].what, work, cases[i].left, sizeof work);
+        expect_same(cases[i].what, answers, left, sizeof answers);
+    }
 }
 
 static void withdraws(const uint8_t *s)
@@ -389,6 +440,7 @@ int main(void)
     admits(s);
     admits_editions();
     finds(s);
+    finds_all(s);
     withdraws(s);
     withdraws_last_lines(s);
     lowers_premises();

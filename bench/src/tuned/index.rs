@@ -1,4 +1,4 @@
-//! A hash index of row numbers, for the test of repetition.
+//! A hash index of row numbers, for the test of repetition, and of line numbers, for batches.
 
 /// Open addressing over `N` slots, a power of two. A slot holds a generation and a row number, so that a new sheet needs no clearing.
 pub struct Index<const N: usize> {
@@ -42,6 +42,23 @@ impl<const N: usize> Index<N> {
             }
             if same((*slot & NUMBER) as u16) {
                 return false;
+            }
+            at = (at + 1) & self.mask;
+        }
+    }
+
+    /// The entered row that is the same, if there is one.
+    #[inline(always)]
+    pub fn find(&self, hash: u64, same: impl Fn(u16) -> bool) -> Option<u16> {
+        let mut at = hash as usize & self.mask;
+        loop {
+            let slot = self.slots[at & (N - 1)];
+            let n = (slot & NUMBER) as u16;
+            if slot >> 12 != self.generation {
+                return None;
+            }
+            if same(n) {
+                return Some(n);
             }
             at = (at + 1) & self.mask;
         }

@@ -31,6 +31,12 @@ impl Line {
         }
     }
 
+    /// Form, context, s1, s2, s3.
+    #[inline(always)]
+    pub fn judgment(&self) -> [u16; 5] {
+        [self.form, self.context, self.s1, self.s2, self.s3]
+    }
+
     /// Number 9 at line `n`: are form, rule and numbers in range, and unused fields 0?
     #[inline(always)]
     pub fn fits(&self, n: usize, counts: &Counts) -> bool {

@@ -1,6 +1,7 @@
-//! Admission, finding, withdrawal of a line and of sets, normal terms, day numbers and windows, written for speed. The
-//! answers and the buffers are those of the proved library.
+//! Admission, finding of a judgment and of batches, withdrawal of a line and of sets, normal terms, day numbers and
+//! windows, written for speed. The answers and the buffers are those of the proved library.
 
+mod batch;
 mod contexts;
 pub mod dates;
 mod equality;
@@ -19,6 +20,7 @@ mod table;
 mod typing;
 mod withdrawal;
 
+use index::Index;
 use instances::Tables;
 use layout::Counts;
 use lines::Line;
@@ -29,6 +31,8 @@ use normality::Forms;
 pub struct Checker {
     tables: Tables,
     lines: Box<[Line; lines::ROOM]>,
+    /// The lines by their judgments, for a batch.
+    stated: Index<{ 2 * lines::ROOM }>,
     forms: Forms,
 }
 
@@ -48,6 +52,7 @@ impl Checker {
         Checker {
             tables: Tables::new(),
             lines: Box::new([Line::default(); lines::ROOM]),
+            stated: Index::new(),
             forms: Forms::new(),
         }
     }
@@ -65,9 +70,7 @@ impl Checker {
             Err(answer) => return answer,
             Ok(counts) => counts,
         };
-        let stated = |line: &Line| {
-            [line.form, line.context, line.s1, line.s2, line.s3].map(u32::from) == wanted
-        };
+        let stated = |line: &Line| line.judgment().map(u32::from) == wanted;
         match self.lines[..counts.lines].iter().position(stated) {
             Some(n) => accepted([n, 0, 0]),
             None => refused(14, 0),

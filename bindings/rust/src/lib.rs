@@ -19,6 +19,17 @@ mod c {
             wanted: *const [u32; 5],
             values: *mut [usize; 3],
         ) -> usize;
+        pub fn mengyubad_find_all(
+            sheet: *const u8,
+            sheet_length: usize,
+            work: *mut u32,
+            work_words: usize,
+            wanted: *const u32,
+            wanted_words: usize,
+            answers: *mut u16,
+            answer_words: usize,
+            values: *mut [usize; 3],
+        ) -> usize;
         pub fn mengyubad_withdraw(
             sheet: *const u8,
             sheet_length: usize,
@@ -93,6 +104,30 @@ pub fn find(sheet: &[u8], work: &mut [u32], wanted: [u32; 5]) -> Answer {
             work.as_mut_ptr(),
             work.len(),
             &wanted,
+            &mut values,
+        )
+    };
+    Answer { number, values }
+}
+
+/// What a batch answers for a judgment that no line states.
+pub const ABSENT: u16 = 65_535;
+
+/// Finds each judgment of a list, five words for each as in `find`, and puts the lines, or `ABSENT`, in `answers`: the
+/// number of judgments. Words that make no whole judgment do not count.
+pub fn find_all(sheet: &[u8], work: &mut [u32], wanted: &[u32], answers: &mut [u16]) -> Answer {
+    let mut values = [0; 3];
+    // SAFETY: as in `admit`; `wanted` is only read, and `answers` is a slice of its own.
+    let number = unsafe {
+        c::mengyubad_find_all(
+            sheet.as_ptr(),
+            sheet.len(),
+            work.as_mut_ptr(),
+            work.len(),
+            wanted.as_ptr(),
+            wanted.len(),
+            answers.as_mut_ptr(),
+            answers.len(),
             &mut values,
         )
     };

@@ -2,13 +2,10 @@
 -- Assumes nothing.
 use mathlib.Core.Path.{_≡_, refl, sym, _∙_, ap, subst}
 use mathlib.Core.Logic.{_↔_, _⊎_, inl, inr}
-use mathlib.Core.Bool.{Bool, true, false, cond, and-eq-true-iff, false≢true}
+use mathlib.Core.Bool.{Bool, true, false, cond, false≢true}
 use mathlib.Core.List.{List, [], _∷_, _++_}
 use Prim.Native.Nat.{ℕ}
 use native.Mathlib.Omega.{arith}
-use lib.Dec.{eqb}
-use lib.ListN.{length}
-use borrow.Author.Tests.{eqb-true, ne-eqb}
 use Rattle.windows.specs.declared.dates.Date.{Date}
 use Rattle.windows.specs.Dates.{dateOf}
 use Rattle.answers.specs.declared.numbers.Reading.the-variants.{Number, Unreadable}
@@ -17,13 +14,13 @@ use Rattle.answers.specs.declared.dates.DateReading.the-variants.{Spelle
 use Rattle.answers.specs.Numbers.{isDigit, allDigits, isNumeral, spelled}
 use Rattle.answers.specs.Parts.{upTo, past}
 use Rattle.answers.specs.Dates.{numeralOf, dateFrom, dateIn, Numeral, SpellsDate}
-use Rattle.answers.proofs.NumberLaws.{digit-range}
+use Rattle.answers.proofs.PartedLaws.{parted, some-before, digits-before}
 
 -- a text is a numeral and is read as what it spells, or it is not read
 abbrev IsRead : List ℕ → Type 0
 IsRead text = (Numeral text × (numeralOf text ≡ Number (spelled 0 text))) ⊎ (numeralOf text ≡ Unreadable)
 
-numeral-is : (text : List ℕ) → (isNumeral text ≡ true) ↔ Numeral text
+pub numeral-is : (text : List ℕ) → (isNumeral text ≡ true) ↔ Numeral text
 unfolding isNumeral
 numeral-is [] = (λ e. absurd (false≢true e), λ n. absurd (omega (arith, n .some)))
 numeral-is (byte ∷ text) = (λ e. record { some = omega arith; digits = e }, λ n. n .digits)
@@ -44,31 +41,11 @@ read-numeral : (text : List ℕ) → Numeral text → numeralOf text ≡ Number 
 unfolding numeralOf
 read-numeral text n = rw (numeral-is text .1 n)
 
--- a text has no hyphen, or is parted by its first one
-abbrev IsParted : List ℕ → List ℕ → List ℕ → Type 0
-IsParted text first rest = (rest ≡ []) ⊎ (text ≡ first ++ (45 ∷ rest))
-
-parted? : (text : List ℕ) → IsParted text (upTo 45 text) (past 45 text)
-unfolding upTo past
-parted? [] = inl refl
-parted? (byte ∷ text) = pick (eqb byte 45) refl (parted? text)
-  where
-    pick : (same : Bool) → eqb byte 45 ≡ same → IsParted text (upTo 45 text) (past 45 text)
-        → IsParted (byte ∷ text) (cond same [] (byte ∷ upTo 45 text)) (cond same text (past 45 text))
-    pick true e rest = inr (ap (λ b. b ∷ text) (eqb-true byte 45 e))
-    pick false e (inl none) = inl none
-    pick false e (inr parts) = inr (ap (λ l. byte ∷ l) parts)
-
 -- digits are no hyphen
 before-hyphen : (digits rest : List ℕ) → allDigits digits ≡ true
     → (upTo 45 (digits ++ (45 ∷ rest)) ≡ digits) × (past 45 (digits ++ (45 ∷ rest)) ≡ rest)
-unfolding upTo past allDigits
-before-hyphen [] rest e = (refl, refl)
-before-hyphen (byte ∷ digits) rest e =
-    let tests = and-eq-true-iff (isDigit byte) (allDigits digits) .0 e in
-    let more = before-hyphen digits rest (tests .1) in
-    let other = ne-eqb byte 45 (λ same. omega (arith, digit-range byte (tests .0), same)) in
-    (rw (other, more .0), rw (other, more .1))
+unfolding isDigit
+before-hyphen = digits-before 45 refl
 
 -- the date that is spelled, if one is
 abbrev spelledOr : Date → DateReading → Date
@@ -96,15 +73,9 @@ all-read year month day (inr a) b c d e =
 -- where month and day are numerals the text has two hyphens
 two-hyphens : (text : List ℕ) → Numeral (upTo 45 (past 45 text)) → Numeral (past 45 (past 45 text))
     → text ≡ upTo 45 text ++ (45 ∷ (upTo 45 (past 45 text) ++ (45 ∷ past 45 (past 45 text))))
-unfolding upTo
-two-hyphens text month day = pick (parted? text) (parted? (past 45 text))
-  where
-    pick : IsParted text (upTo 45 text) (past 45 text)
-        → IsParted (past 45 text) (upTo 45 (past 45 text)) (past 45 (past 45 text))
-        → text ≡ upTo 45 text ++ (45 ∷ (upTo 45 (past 45 text) ++ (45 ∷ past 45 (past 45 text))))
-    pick (inl none) rest = absurd (omega (arith, ap (λ l. length (upTo 45 l)) none, month .some))
-    pick (inr parts) (inl none) = absurd (omega (arith, ap length none, day .some))
-    pick (inr parts) (inr more) = parts ∙ ap (λ l. upTo 45 text ++ (45 ∷ l)) more
+two-hyphens text month day =
+    parted 45 text (some-before 45 (past 45 text) (month .some))
+    ∙ ap (λ l. upTo 45 text ++ (45 ∷ l)) (parted 45 (past 45 text) (day .some))
 
 forth : (text : List ℕ) (d : Date) → dateIn text ≡ Spelled d → SpellsDate text d
 unfolding dateIn

@@ -1,7 +1,7 @@
 -- Reading a number digit by digit: what the digits read so far make of the rest.
 -- Assumes nothing.
 use mathlib.Core.Path.{_≡_, refl, sym, _∙_, ap}
-use mathlib.Core.Bool.{Bool, true, false, _&&_, false≢true}
+use mathlib.Core.Bool.{Bool, true, false, _&&_, cond, false≢true}
 use mathlib.Core.List.{List, [], _∷_}
 use Prim.Native.Nat.{ℕ, suc, _+_, _-_, _*_, _/_, _≤_, _<_}
 use native.Mathlib.Numerals.{add-one}
@@ -87,6 +87,14 @@ module _ (text : List ℕ) (number i : ℕ) (so-far : ReadSoFar text number i) w
         small = omega (arith, digit-range byte is);
         answer = with-digit ∙ ap (λ n. readFrom (10 * number + digit-is) (drop n text)) (sym (add-one i));
       }
+
+-- a numeral is a number if that is below 2^64
+pub number-is : (text : List ℕ)
+    → readNumber text
+    ≡ cond (isNumeral text && ltb (spelled 0 text) 18446744073709551616) (Number (spelled 0 text)) Unreadable
+unfolding readNumber readFrom isNumeral
+number-is [] = refl
+number-is (byte ∷ text) = refl
 
 -- the first i bytes are digits: what follows decides
 pub record DigitsSoFar (text : List ℕ) (i : ℕ) : Type 0 where

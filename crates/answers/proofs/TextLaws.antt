@@ -3,7 +3,7 @@
 use mathlib.Core.Path.{_≡_, refl, sym, _∙_, ap, subst}
 use mathlib.Core.Bool.{Bool, true, false, cond}
 use mathlib.Core.List.{List, [], _∷_, _++_, append-assoc, append-nil}
-use Prim.Native.Nat.{ℕ, zero, suc, _+_, _-_, _*_, _/_, _^_, _≤_, _<_}
+use Prim.Native.Nat.{ℕ, zero, suc, _+_, _-_, _*_, _/_, _%_, _^_, _≤_, _<_}
 use native.Mathlib.Numerals.{add-one}
 use native.Mathlib.Nat.{pow-suc, pow-le-pow-right, le-div-iff-mul-le, div-lt-iff-lt-mul}
 use native.Mathlib.Omega.{arith}
@@ -12,8 +12,9 @@ use lib.ListN.{length, getD, take, drop, set, length-set, length-append, take-ap
 use lib.Seq.{take-suc, take-suc-set, take-all, drop-drop, drop-set-lt, length-take-le}
 use borrow.Author.Tests.{ltb-true, ltb-false}
 use Rattle.io.specs.Counts.{Counts}
-use Rattle.io.specs.Digits.{digits, Fewest}
-use Rattle.answers.specs.Text.{places, decimal, field, Put, AtStart}
+use Rattle.io.specs.Digits.{glyph, digits, Fewest}
+use Rattle.answers.specs.Text.{places, decimal, field, end, okText, refusedText, answerLine, answerLines}
+use Rattle.answers.specs.Text.{Put, AtStart}
 
 -- the first i of the bytes are put
 pub record PutSoFar (before : List ℕ) (at : ℕ) (bytes after : List ℕ) (i : ℕ) : Type 0 where
@@ -152,6 +153,43 @@ pub decimal-is : (n k : ℕ) → n < 18446744073709551616 → Fewest 10 1 n k �
 unfolding decimal
 decimal-is n k small f = ap (λ j. digits 10 j n) (places-are 19 n k f (twenty n k small f))
 
+-- so has its text
+digits-long : (k n : ℕ) → length (digits 10 k n) ≡ k
+digits-long zero n = refl
+digits-long (suc k) n =
+    omega (arith, length-append (digits 10 k (n / 10)) (glyph (n % 10) ∷ []), digits-long k (n / 10))
+
+places-few : (more n : ℕ) → places more n ≤ suc more
+unfolding places
+places-few zero n = omega arith
+places-few (suc more) n = pick (ltb n 10) (places-few more (n / 10))
+  where
+    pick : (small : Bool) → places more (n / 10) ≤ suc more → cond small 1 (suc (places more (n / 10))) ≤ suc (suc more)
+    pick true h = omega arith
+    pick false h = omega arith
+
+decimal-short : (n : ℕ) → length (decimal n) ≤ 20
+unfolding decimal
+decimal-short n = omega (arith, digits-long (places 19 n) n, places-few 19 n)
+
+-- a line with one or two numbers
+pub ok-short : (n : ℕ) {before after : List ℕ} {count : ℕ} → AtStart (okText n) before after count → count ≤ 80
+unfolding okText field
+ok-short n a = omega (arith, a .long, length-append (field n) end, decimal-short n)
+
+pub refusal-short : (number place : ℕ) {before after : List ℕ} {count : ℕ}
+    → AtStart (refusedText number place) before after count → count ≤ 80
+unfolding refusedText field
+refusal-short number place a =
+    omega (
+      arith,
+      a .long,
+      length-append (field number) (field place ++ end),
+      length-append (field place) end,
+      decimal-short number,
+      decimal-short place,
+    )
+
 -- a space and the digits are put
 pub number-put :
     {a b c : List ℕ} {at e f : ℕ} (n k : ℕ) → n < 18446744073709551616 → Fewest 10 1 n k → (ds : List ℕ) → k ≡ length ds → ds ≡ digits 10 k n →
@@ -161,3 +199,59 @@ number-put {a} {b} {c} {at} {e} {f} n k small fewest ds long spell p q = (
   subst (λ l. Put a at (32 ∷ l) c f) (spell ∙ decimal-is n k small fewest) (joined p q),
   omega (arith, p .place, q .place, twenty n k small fewest),
 )
+
+-- the digits and a line end are put
+pub answer-put : {a b c : List ℕ} {at e f : ℕ} (n k : ℕ) → n < 18446744073709551616 → Fewest 10 1 n k → (ds : List ℕ)
+    → k ≡ length ds → ds ≡ digits 10 k n → Put a at ds b e → Put b e (10 ∷ []) c f
+    → Put a at (answerLine n) c f × (f ≤ at + 21)
+unfolding answerLine
+answer-put {a} {b} {c} {at} {e} {f} n k small fewest ds long spell p q = (
+  subst (λ l. Put a at (l ++ (10 ∷ [])) c f) (spell ∙ decimal-is n k small fewest) (joined p q),
+  omega (arith, p .place, q .place, twenty n k small fewest),
+)
+
+-- the lines of the first i answers are put, up to a place
+pub record AnswersSoFar (before : List ℕ) (at : ℕ) (answers after : List ℕ) (end i : ℕ) : Type 0 where
+  pub within : i ≤ length answers
+  pub put : Put before at (answerLines (take i answers)) after end
+  pub room : end ≤ at + 21 * i
+
+lines-append : (a b : List ℕ) → answerLines (a ++ b) ≡ answerLines a ++ answerLines b
+unfolding answerLines
+lines-append [] b = refl
+lines-append (n ∷ a) b =
+    ap (λ l. answerLine n ++ l) (lines-append a b) ∙ sym (append-assoc (answerLine n) (answerLines a) (answerLines b))
+
+module _ (before : List ℕ) (at : ℕ) (answers : List ℕ) where
+  pub no-answers : at ≤ length before → AnswersSoFar before at answers before at 0
+  unfolding answerLines
+  no-answers h = record {
+    within = omega arith;
+    put =
+        subst (Put before at [] before) none
+        (put-done before at [] before 0 (put-start before at []) (omega arith) (omega arith));
+    room = omega arith;
+  }
+    where
+      none : at + 0 ≡ at
+      none = omega arith
+
+  module _ {after : List ℕ} {end i : ℕ} (so-far : AnswersSoFar before at answers after end i) where
+    pub next-answer : {more : List ℕ} {stop : ℕ} → i < length answers
+        → Put after end (answerLine (getD answers i 0)) more stop × (stop ≤ end + 21)
+        → AnswersSoFar before at answers more stop (i + 1)
+    unfolding answerLines
+    next-answer {more} {stop} inside p = record {
+      within = omega arith;
+      put = subst (λ l. Put before at l more stop) one (joined (so-far .put) (p .0));
+      room = omega (arith, so-far .room, p .1);
+    }
+      where
+        one : answerLines (take i answers) ++ answerLine (getD answers i 0) ≡ answerLines (take (i + 1) answers)
+        one =
+            ap (λ l. answerLines (take i answers) ++ l) (sym (append-nil (answerLine (getD answers i 0))))
+            ∙ sym (lines-append (take i answers) (getD answers i 0 ∷ []))
+            ∙ ap answerLines (sym (take-suc answers i 0 inside) ∙ ap (λ n. take n answers) (sym (add-one i)))
+
+    pub all-answers : length answers ≤ i → Put before at (answerLines answers) after end
+    all-answers all = subst (λ l. Put before at (answerLines l) after end) (take-all i answers all) (so-far .put)

@@ -13,6 +13,8 @@ use Rattle.sheets.specs.declared.finding.Found.{Found}
 use Rattle.sheets.specs.declared.finding.Found.the-variants.{Line, Refused as notFound}
 use Rattle.sheets.specs.declared.withdrawal.Withdrawal.{Withdrawal}
 use Rattle.sheets.specs.declared.withdrawal.Withdrawal.the-variants.{Written, Refused as notWritten}
+use Rattle.sheets.specs.declared.batch.Batch.{Batch}
+use Rattle.sheets.specs.declared.batch.Batch.the-variants.{Answered, Refused as noBatch}
 use Rattle.sheets.specs.declared.normality.Normality.{Normality}
 use Rattle.sheets.specs.declared.normality.Normality.the-variants.{Yes, No, Refused as noTerm}
 use Rattle.windows.specs.declared.dates.DayNumber.{DayNumber}
@@ -95,6 +97,24 @@ dayText (noDay number place) = refusedText number place
 unfoldable pub dateText : DateReading → List ℕ
 dateText (Spelled date) = dayText (dayNumberOf date)
 dateText Unreadable = []
+
+-- one answer a line
+unfoldable pub answerLine : ℕ → List ℕ
+answerLine n = decimal n ++ end
+
+unfoldable pub answerLines : List ℕ → List ℕ
+answerLines [] = []
+answerLines (n ∷ ns) = answerLine n ++ answerLines ns
+
+-- document 02, A7: how many judgments, then the answer for each
+unfoldable pub batchText : Batch → List ℕ → List ℕ
+batchText (Answered count) answers = okText count ++ answerLines answers
+batchText (noBatch number place) answers = refusedText number place
+
+-- how many answers there are
+unfoldable pub answerCount : Batch → ℕ
+answerCount (Answered count) = count
+answerCount (noBatch number place) = 0
 
 -- bytes stand behind the first at bytes of a buffer, whose length is kept, and end at the given place; the bytes beyond
 -- are as they were

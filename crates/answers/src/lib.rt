@@ -1,8 +1,9 @@
-// What the programs share: numbers and dates in text, a sheet read from a descriptor, and the line of text that is
-// answered.
+// What the programs share: numbers, dates and lists of judgments in text, a sheet or a list read from a descriptor, and
+// the text that is answered.
 mod dates;
 pub mod input;
 mod lines;
+pub mod listing;
 pub mod numbers;
 pub mod parts;
 pub mod replies;

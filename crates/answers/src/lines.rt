@@ -1,15 +1,17 @@
 // Answers as lines of text.
 use sheets::admission::Admission;
+use sheets::batch::Batch;
 use sheets::finding::Found;
 use sheets::normality::Normality;
 use sheets::withdrawal::Withdrawal;
 use windows::access::Access;
 use windows::dates::DayNumber;
-ghost use Prim.Native.Nat.{_+_, _≤_};
+ghost use Prim.Native.Nat.{_+_, _*_, _≤_};
 ghost use lib.ListN.{length};
 ghost use Rattle.io.specs.Counts.{Counts};
 ghost use Rattle.answers.specs.Text.{field, okText, refusedText, admissionText, foundText, withdrawalText};
-ghost use Rattle.answers.specs.Text.{normalityText, accessText, dayText, Put, AtStart};
+ghost use Rattle.answers.specs.Text.{normalityText, accessText, dayText, answerLine, answerLines, batchText};
+ghost use Rattle.answers.specs.Text.{Put, AtStart};
 
 // Puts bytes behind the first `at` bytes of `out`, and answers where they end.
 fn put(out: &mut [u8], at: usize, bytes: &[u8]) -> usize
@@ -131,5 +133,50 @@ pub fn put_day(answer: DayNumber, out: &mut [u8; 80]) -> usize
     match answer {
         DayNumber::Refused { number, place } => put_refusal(number, place, out),
         DayNumber::Day(day) => put_value(day, out),
+    }
+}
+
+// Puts the digits of a number and a line end behind the first `at` bytes of `out`, and answers where they end.
+fn put_answer(out: &mut [u8], at: usize, number: u16) -> usize
+    requires { ⌜ at + 21 ≤ length (now out) ⌝ }
+    ensures { λ r. ⌜ Put (now (out .entry)) at (answerLine number) (now (out .exit)) r × (r ≤ at + 21) ⌝ }
+{
+    let mut digits = [0u8; 20];
+    let count = io::decimal(number as u64, &mut digits);
+    let after = put(out, at, &digits[..count]);
+    put(out, after, b"\n")
+}
+
+// Puts a line for each answer of a batch likewise.
+fn put_answers(answers: &[u16], out: &mut [u8], at: usize) -> usize
+    requires { ⌜ at + 21 * length (now answers) ≤ length (now out) ⌝ }
+    ensures { λ r. ⌜ Put (now (out .entry)) at (answerLines (now (answers .entry))) (now (out .exit)) r ⌝ }
+{
+    let mut end = at;
+    let mut i = 0;
+    while i < answers.len() {
+        end = put_answer(out, end, answers[i]);
+        i += 1;
+    }
+    end
+}
+
+// Puts the lines of a batch's answer, and answers how many bytes they have.
+pub fn put_batch(answer: Batch, answers: &[u16], out: &mut [u8; 21584]) -> usize
+    requires { ⌜ length (now answers) ≤ 1024 ⌝ }
+    ensures { λ r. ⌜ Counts r (now (out .exit)) ⌝ }
+    ensures { λ r. ⌜ AtStart (batchText answer (now (answers .entry))) (now (out .entry)) (now (out .exit)) r ⌝ }
+{
+    let mut line = [0u8; 80];
+    match answer {
+        Batch::Refused { number, place } => {
+            let count = put_refusal(number, place, &mut line);
+            put(out, 0, &line[..count])
+        }
+        Batch::Answered(judgments) => {
+            let count = put_value(judgments, &mut line);
+            let first = put(out, 0, &line[..count]);
+            put_answers(answers, out, first)
+        }
     }
 }

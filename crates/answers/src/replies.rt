@@ -4,11 +4,14 @@ use crate::dates::DateReading;
 use crate::dates::read_date;
 use crate::lines::put_access;
 use crate::lines::put_admission;
+use crate::lines::put_batch;
 use crate::lines::put_day;
 use crate::lines::put_found;
 use crate::lines::put_normality;
 use crate::lines::put_withdrawal;
 use sheets::admission::admit;
+use sheets::batch::Batch;
+use sheets::batch::find_all_flat;
 use sheets::finding::Wanted;
 use sheets::finding::find;
 use sheets::normality::mark_normal;
@@ -20,10 +23,11 @@ ghost use lib.ListN.{length};
 ghost use Rattle.io.specs.Counts.{Counts};
 ghost use Rattle.sheets.specs.Admission.{admitOf};
 ghost use Rattle.sheets.specs.Finding.{findOf};
+ghost use Rattle.sheets.specs.Batch.{wantedIn, batchOf, searchAnswers};
 ghost use Rattle.sheets.specs.WithdrawalSet.{withdrawSetOf, setOutAfter, KeepsTheUnlisted};
 ghost use Rattle.sheets.specs.Normality.{normalityOf};
 ghost use Rattle.answers.specs.Text.{admissionText, foundText, withdrawalText, normalityText};
-ghost use Rattle.answers.specs.Text.{windowText, dateText, AtStart};
+ghost use Rattle.answers.specs.Text.{windowText, dateText, batchText, answerCount, AtStart};
 ghost use Rattle.answers.specs.Dates.{dateIn};
 ghost use Rattle.answers.specs.Room.{Within};
 
@@ -49,6 +53,32 @@ pub fn search_reply(sheet: &[u8], wanted: Wanted, text: &mut [u8; 80]) -> usize
 {
     let mut work = [0u32; 3072];
     put_found(find(sheet, &mut work, wanted), text)
+}
+
+// How many answers a batch has.
+fn answer_count(answer: Batch) -> usize
+    ensures { λ r. ⌜ r ≡ answerCount answer ⌝ }
+{
+    match answer {
+        Batch::Answered(count) => count,
+        Batch::Refused {
+            number: _,
+            place: _,
+        } => 0,
+    }
+}
+
+// Searches a sheet for many judgments, five numbers each, and puts the lines of text likewise. More than 1,024 are
+// refused.
+pub fn batch_reply(sheet: &[u8], numbers: &[u32], text: &mut [u8; 21584]) -> usize
+    ensures count { λ r. ⌜ Counts r (now (text .exit)) ⌝ }
+    ensures text { λ r. ⌜ AtStart (batchText (batchOf (now (sheet .entry)) 3072 (length (wantedIn (now (numbers .entry)))) 1024) (searchAnswers (now (sheet .entry)) 3072 (wantedIn (now (numbers .entry))))) (now (text .entry)) (now (text .exit)) r ⌝ }
+{
+    let mut work = [0u32; 3072];
+    let mut answers = [0u16; 1024];
+    let answer = find_all_flat(sheet, &mut work, numbers, &mut answers);
+    let count = answer_count(answer);
+    put_batch(answer, &answers[..count], text)
 }
 
 // Withdraws a set of lines of a sheet likewise; the new sheet goes to `out`.

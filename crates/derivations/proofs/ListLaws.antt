@@ -1,7 +1,7 @@
 -- Laws of lists: the values of a function in order, joined lists, members by place, marked members, and numbers below a
 -- bound.
 -- Assumes nothing.
-use mathlib.Core.Path.{_≡_, refl, sym, ap, ap₂, subst}
+use mathlib.Core.Path.{_≡_, refl, sym, ap₂, subst}
 use mathlib.Core.Logic.{⊎-elim}
 use mathlib.Core.Bool.{Bool, true, false}
 use mathlib.Core.List.{List, [], _∷_, map, flatMap, List·Memᴰ·head as here, List·Memᴰ·tail as there, List·Memᴰ·not-nil, List·Memᴰ·cases-cons, List·Memᴰ·append-cases, Memᴰ·append-left, Memᴰ·append-right}
@@ -13,17 +13,6 @@ use Rattle.terms.proofs.Tests.{never}
 use Rattle.derivations.specs.Lists.{_∈_}
 
 module _ {A : Type 0} where
-  pub listed-length : (f : ℕ → A) (n : ℕ) → length (listed f n) ≡ n
-  unfolding listed
-  listed-length f zero = refl
-  listed-length f (suc n) = ap suc (listed-length (λ i. f (suc i)) n)
-
-  pub listed-at : (f : ℕ → A) (n i : ℕ) (d : A) → i < n → getD (listed f n) i d ≡ f i
-  unfolding listed
-  listed-at f zero i d h = absurd (omega arith)
-  listed-at f (suc n) zero d h = refl
-  listed-at f (suc n) (suc i) d h = listed-at (λ k. f (suc k)) n i d (omega arith)
-
   pub in-listed : (f : ℕ → A) (n i : ℕ) → i < n → f i ∈ listed f n
   unfolding listed
   in-listed f zero i h = absurd (omega arith)

@@ -14,11 +14,12 @@ use Rattle.rules.specs.Editions.{rowIn}
 use Rattle.sheets.specs.Layout.{linesIn, editionOf}
 use Rattle.sheets.specs.Lines.{lineWord, lineOf, premisesOf, citedBy, lineAt, statedAt, LineFollows}
 use Rattle.sheets.specs.Good.{Good}
+use Rattle.sheets.proofs.ListedLaws.{listed-length, listed-at}
 use Rattle.sheets.proofs.AcceptedLaws.{accepted-good, stated-is}
 use Rattle.derivations.specs.Derivation.{judgmentAt, Derivation}
 use Rattle.sheets.specs.Accepted.{statedBy}
 use Rattle.derivations.specs.Demand3.{Sound}
-use Rattle.derivations.proofs.ListLaws.{listed-length, listed-at, map-below, all-below}
+use Rattle.derivations.proofs.ListLaws.{map-below, all-below}
 
 -- what a good sheet states
 module _ {b : List ℕ} {T C L : ℕ} (g : Good b T C L) where

@@ -26,10 +26,11 @@ use Rattle.derivations.specs.Lists.{_∈_}
 use Rattle.derivations.specs.Fits.{subterms, subjects, termsOf, beginnings, contextsOf, Fits}
 use Rattle.terms.specs.Lists.{listed, selected}
 use Rattle.sheets.specs.Accepted.{statedBy}
-use Rattle.derivations.proofs.ListLaws.{Among, listed-length, in-listed, of-listed, of-selected, of-flat}
+use Rattle.derivations.proofs.ListLaws.{Among, in-listed, of-listed, of-selected, of-flat}
 use Rattle.derivations.proofs.DistinctLaws.{at-most-is}
 use Rattle.derivations.proofs.Subterms.{of-children, of-subterms}
 use Rattle.sheets.proofs.AcceptedLaws.{stated-is}
+use Rattle.sheets.proofs.ListedLaws.{listed-length}
 use Rattle.derivations.proofs.SheetDerives.{stated-length}
 
 -- the index or level of a row that keeps its limit

@@ -8,7 +8,8 @@ use Rattle.sheets.specs.declared.admission.Admission.{Admission}
 use Rattle.sheets.specs.declared.admission.Admission.the-variants.{Accepted, Refused}
 use Rattle.sheets.specs.declared.finding.Found.{Found}
 use Rattle.sheets.specs.declared.finding.Found.the-variants.{Line, Refused as notFound}
-use Rattle.sheets.specs.declared.finding.Wanted.{Wanted}
+use Rattle.sheets.specs.declared.batch.Batch.{Batch}
+use Rattle.sheets.specs.declared.batch.Batch.the-variants.{Answered, Refused as notAnswered}
 use Rattle.sheets.specs.declared.withdrawal.Withdrawal.{Withdrawal}
 use Rattle.sheets.specs.declared.withdrawal.Withdrawal.the-variants.{Written, Refused as notWritten}
 use Rattle.sheets.specs.declared.normality.Normality.{Normality}
@@ -35,6 +36,11 @@ unfoldable pub foundReply : Found → Reply
 foundReply (Line line) = oneValue 0 line
 foundReply (notFound number place) = oneValue number place
 
+-- "The batch returns the list's length" (document 02, A7)
+unfoldable pub batchReply : Batch → Reply
+batchReply (Answered count) = oneValue 0 count
+batchReply (notAnswered number place) = oneValue number place
+
 -- "new length | line withdrawn"
 unfoldable pub withdrawalReply : Withdrawal → Reply
 withdrawalReply (Written length) = oneValue 0 length
@@ -56,10 +62,6 @@ unfoldable pub accessReply : Access → Reply
 accessReply Open = oneValue 0 1
 accessReply Closed = oneValue 0 0
 accessReply (noAccess number place) = oneValue number place
-
--- five numbers, in the order in which document 01 names them: form, context, s1, s2, s3
-unfoldable pub wantedOf : List ℕ → Wanted
-wantedOf l = record { form = getD l 0 0; context = getD l 1 0; s1 = getD l 2 0; s2 = getD l 3 0; s3 = getD l 4 0 }
 
 -- three numbers: year, month, day
 unfoldable pub dateFrom : List ℕ → Date

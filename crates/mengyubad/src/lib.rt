@@ -1,8 +1,10 @@
 // The library for programs in other languages. Every function answers a number, 0 or that of a refusal, and puts three
-// values: if the number is 0 the counts, the line, the length, the day number, or 1 for normal or open and 0 for not;
-// else the place. What is left over is 0.
+// values: if the number is 0 the counts, the line, how many judgments were sought, the length, the day number, or 1 for
+// normal or open and 0 for not; else the place. What is left over is 0.
 use sheets::admission::Admission;
 use sheets::admission::admit;
+use sheets::batch::Batch;
+use sheets::batch::find_all_flat;
 use sheets::finding::Found;
 use sheets::finding::Wanted;
 use sheets::finding::find;
@@ -19,13 +21,14 @@ ghost use mathlib.Core.Path.{_≡_};
 ghost use lib.ListN.{length};
 ghost use Rattle.sheets.specs.Admission.{admitOf, workAfter};
 ghost use Rattle.sheets.specs.Finding.{findOf};
+ghost use Rattle.sheets.specs.Batch.{wantedOf, wantedIn, batchOf, answersAfter};
 ghost use Rattle.sheets.specs.Withdrawal.{withdrawOf, outAfter, KeepsTheOthers};
 ghost use Rattle.sheets.specs.WithdrawalSet.{withdrawSetOf, setOutAfter, KeepsTheUnlisted};
 ghost use Rattle.sheets.specs.Normality.{normalityOf};
 ghost use Rattle.windows.specs.Dates.{dayNumberOf};
 ghost use Rattle.windows.specs.Access.{windowOf, openOn};
-ghost use Rattle.mengyubad.specs.Replies.{oneValue, admissionReply, foundReply, withdrawalReply, wantedOf, Given};
-ghost use Rattle.mengyubad.specs.Replies.{normalityReply, dayReply, accessReply, dateFrom};
+ghost use Rattle.mengyubad.specs.Replies.{oneValue, admissionReply, foundReply, batchReply, withdrawalReply};
+ghost use Rattle.mengyubad.specs.Replies.{normalityReply, dayReply, accessReply, dateFrom, Given};
 
 // A number and three values.
 struct Reply {
@@ -71,6 +74,15 @@ fn found_reply(answer: Found) -> Reply
     match answer {
         Found::Refused { number, place } => single(number, place),
         Found::Line(line) => single(0, line),
+    }
+}
+
+fn batch_reply(answer: Batch) -> Reply
+    ensures { λ r. ⌜ r ≡ batchReply answer ⌝ }
+{
+    match answer {
+        Batch::Refused { number, place } => single(number, place),
+        Batch::Answered(count) => single(0, count),
     }
 }
 
@@ -169,6 +181,26 @@ pub extern "C" fn mengyubad_find(
         s3: wanted[4],
     };
     give(found_reply(find(sheet, work, judgment)), values)
+}
+
+// The lines of many judgments, five numbers a judgment, in a buffer of answers, 65,535 for a judgment that no line has:
+// how many were sought.
+#[no_mangle]
+pub extern "C" fn mengyubad_find_all(
+    sheet: &[u8],
+    work: &mut [u32],
+    wanted: &[u32],
+    answers: &mut [u16],
+    values: &mut [usize; 3],
+) -> usize
+    ensures answer { λ r. ⌜ Given (batchReply (batchOf (now (sheet .entry)) (length (now (work .entry))) (length (wantedIn (now (wanted .entry)))) (length (now (answers .entry))))) r (now (values .exit)) ⌝ }
+    ensures left { λ _. ⌜ now (work .exit) ≡ workAfter (now (sheet .entry)) (now (work .entry)) ⌝ }
+    ensures put { λ _. ⌜ now (answers .exit) ≡ answersAfter (now (sheet .entry)) (length (now (work .entry))) (wantedIn (now (wanted .entry))) (now (answers .entry)) ⌝ }
+{
+    give(
+        batch_reply(find_all_flat(sheet, work, wanted, answers)),
+        values,
+    )
 }
 
 // Writes a sheet without one of its lines: the new length.

@@ -1,4 +1,4 @@
--- The words of a line, the length that one of them names, and the numbers that some of them spell.
+-- The words of a line, the length that one of them names, and the numbers that some of them spell; the lines of a text.
 use mathlib.Core.Path.{_≡_}
 use mathlib.Core.Bool.{cond}
 use mathlib.Core.List.{List}
@@ -14,6 +14,11 @@ use Rattle.answers.specs.Parts.{upTo, past}
 unfoldable pub wordOf : ℕ → List ℕ → List ℕ
 wordOf zero text = upTo 32 text
 wordOf (suc n) text = wordOf n (past 32 text)
+
+-- what stands behind the first so many lines, which byte 10 ends
+unfoldable pub behindLines : ℕ → List ℕ → List ℕ
+behindLines zero text = text
+behindLines (suc count) text = behindLines count (past 10 text)
 
 -- a length that is named, at most that of the longest sheet, which it is where no number is read
 unfoldable pub lengthOf : Reading → ℕ

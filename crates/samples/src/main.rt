@@ -2,14 +2,19 @@
 // line and the answer. A sheet that is left after a withdrawal is admitted on a line of its own. The sheets of a bundle
 // stand one behind the other in one file, in the order of its list, where each has its length beside its name. The
 // sheets that withdrawals of sets are to leave are such a bundle too, without lengths: a line says whether the one that
-// is left is the one expected.
+// is left is the one expected. A batch of searches is a line with a sheet, the room for answers and the number of
+// judgments, which follow it, a line each; every word of the buffer is written behind the answer.
 mod text;
 
+use crate::text::behind_lines;
 use crate::text::length_in;
 use crate::text::number_in;
 use crate::text::numbers_from;
 use crate::text::same;
+use answers::input::Input;
 use answers::input::read_sheet;
+use answers::listing::Listing;
+use answers::listing::read_list;
 use answers::numbers::Reading;
 use answers::numbers::Request;
 use answers::numbers::field_of;
@@ -23,6 +28,8 @@ use answers::replies::search_reply;
 use answers::replies::window_reply;
 use answers::replies::withdrawal_reply;
 use libc::STDOUT_FILENO;
+use sheets::batch::Batch;
+use sheets::batch::find_all_flat;
 use sheets::withdrawal::Withdrawal;
 ghost use Prim.Native.Nat.{_≤_};
 ghost use lib.ListN.{length};
@@ -38,6 +45,7 @@ enum Task {
     Normal,
     Bundled(i32),
     WithdrawSet(i32),
+    Batch,
 }
 
 // Admits a sheet.
@@ -65,6 +73,45 @@ fn find_numbers(sheet: &[u8], line: &[u8]) {
             io::write_all(STDOUT_FILENO, b"unreadable\n");
         }
     }
+}
+
+// Writes a space and a number.
+fn write_word(word: u16) {
+    io::write_all(STDOUT_FILENO, b" ");
+    io::print_decimal(STDOUT_FILENO, word as u64);
+}
+
+// Writes every word of a buffer of answers.
+fn write_words(words: &[u16]) {
+    let mut i = 0;
+    while i < words.len() {
+        write_word(words[i]);
+        i += 1;
+    }
+    io::write_all(STDOUT_FILENO, b"\n");
+}
+
+// Writes the answer of a batch.
+fn write_batch(answer: Batch) {
+    match answer {
+        Batch::Answered(count) => {
+            io::write_all(STDOUT_FILENO, b"ok ");
+            io::print_decimal(STDOUT_FILENO, count as u64);
+        }
+        Batch::Refused { number, place } => {
+            io::write_all(STDOUT_FILENO, b"refused ");
+            io::print_decimal(STDOUT_FILENO, number as u64);
+            io::write_all(STDOUT_FILENO, b" ");
+            io::print_decimal(STDOUT_FILENO, place as u64);
+        }
+    }
+}
+
+// Searches a sheet for the judgments of a batch, and writes every word of the buffer behind the answer.
+fn find_judgments(sheet: &[u8], numbers: &[u32], answers: &mut [u16]) {
+    let mut work = [0u32; 3072];
+    write_batch(find_all_flat(sheet, &mut work, numbers, answers));
+    write_words(answers);
 }
 
 // Withdraws a set of lines of a sheet, and admits the sheet that is left. Answers its length, and 0 if there is none.
@@ -178,17 +225,32 @@ fn admit_bundled(bundle: i32, line: &[u8]) {
     admit_next(bundle, &mut sheet[..length]);
 }
 
-// Runs one line of a list of sheets.
-fn run_sheet(line: &[u8], task: Task) {
+// Reads the sheet that a line of a list names; nothing where it cannot be opened.
+fn read_named(line: &[u8], sheet: &mut [u8; 52241]) -> Input
+    ensures { λ r. ⌜ Counts (r .length) (now (sheet .exit)) ⌝ }
+{
     let end = place_of(line, 0, b' ');
     let fd = os::open_read(&line[..end]);
     if fd < 0 {
         io::write_all(STDOUT_FILENO, b"not opened\n");
+        return Input {
+            length: 0,
+            whole: false,
+        };
+    }
+    let input = read_sheet(fd, sheet);
+    libc::close(fd);
+    input
+}
+
+// Runs one line of a list of sheets.
+fn run_sheet(line: &[u8], task: Task) {
+    let mut sheet = [0u8; 52241];
+    let input = read_named(line, &mut sheet);
+    let length = input.length;
+    if !input.whole {
         return;
     }
-    let mut sheet = [0u8; 52241];
-    let length = read_sheet(fd, &mut sheet).length;
-    libc::close(fd);
     match task {
         Task::Find => find_numbers(&sheet[..length], line),
         Task::Withdraw => withdraw_number(&sheet[..length], line),
@@ -220,6 +282,46 @@ fn run_lines(list: &[u8], task: Task) {
     }
 }
 
+// Searches the sheet that a line names, with as much room for answers as it says. Words that are not written show.
+fn find_in_named(line: &[u8], numbers: &[u32]) {
+    let room = length_in(line, 1);
+    let mut answers = [50505u16; 52240];
+    let mut sheet = [0u8; 52241];
+    let input = read_named(line, &mut sheet);
+    let length = input.length;
+    if input.whole {
+        find_judgments(&sheet[..length], numbers, &mut answers[..room]);
+    }
+}
+
+// Runs one batch: its first line, and its judgments.
+fn run_batch(line: &[u8], judgments: &[u8]) {
+    io::write_all(STDOUT_FILENO, line);
+    io::write_all(STDOUT_FILENO, b" ");
+    let mut numbers = [0u32; 5120];
+    match read_list(judgments, &mut numbers) {
+        Listing::Judgments(count) => {
+            let words = 5 * count;
+            find_in_named(line, &numbers[..words]);
+        }
+        _ => {
+            io::write_all(STDOUT_FILENO, b"unreadable\n");
+        }
+    }
+}
+
+// Runs every batch of a list.
+fn run_batches(list: &[u8]) {
+    let mut start = 0;
+    while start < list.len() {
+        let end = place_of(list, start, b'\n');
+        let judgments = behind(list, end);
+        let next = behind_lines(list, judgments, length_in(&list[start..end], 2));
+        run_batch(&list[start..end], &list[judgments..next]);
+        start = next;
+    }
+}
+
 // Opens a file, or says that it was not opened.
 fn open_named(path: &[u8]) -> i32 {
     let fd = os::open_read(path);
@@ -240,7 +342,10 @@ fn run_list(path: &[u8], task: Task) {
     let mut list = [0u8; 131072];
     let length = io::read_full(fd, &mut list);
     libc::close(fd);
-    run_lines(&list[..length], task);
+    match task {
+        Task::Batch => run_batches(&list[..length]),
+        _ => run_lines(&list[..length], task),
+    }
 }
 
 fn main() {
@@ -260,4 +365,6 @@ fn main() {
         run_list(b"withdraw_set.list", Task::WithdrawSet(results));
         libc::close(results);
     }
+    run_list(b"batch.list", Task::Batch);
+    run_list(b"batch_lowest.list", Task::Batch);
 }

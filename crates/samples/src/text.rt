@@ -1,4 +1,4 @@
-// The lines of a list: words parted by single spaces.
+// The lines of a list, and their words, parted by single spaces.
 use answers::numbers::Reading;
 use answers::numbers::read_number;
 use answers::parts::behind;
@@ -7,9 +7,10 @@ ghost use mathlib.Core.Path.{_≡_};
 ghost use mathlib.Core.Logic.{_↔_};
 ghost use mathlib.Core.Bool.{true};
 ghost use Prim.Native.Nat.{_≤_};
+ghost use lib.ListN.{length, drop};
 ghost use Rattle.io.specs.Counts.{Counts};
 ghost use Rattle.answers.specs.Numbers.{readNumber};
-ghost use Rattle.samples.specs.Text.{wordOf, lengthOf, NumbersFrom};
+ghost use Rattle.samples.specs.Text.{wordOf, behindLines, lengthOf, NumbersFrom};
 
 // The number that word `n` of a line spells, counted from 0.
 pub fn number_in(line: &[u8], n: usize) -> Reading
@@ -23,6 +24,21 @@ pub fn number_in(line: &[u8], n: usize) -> Reading
     }
     let end = place_of(line, start, b' ');
     read_number(&line[start..end])
+}
+
+// Where a text goes on behind so many lines.
+pub fn behind_lines(text: &[u8], from: usize, count: usize) -> usize
+    requires { ⌜ from ≤ length (now text) ⌝ }
+    ensures rest { λ r. ⌜ drop r (now (text .entry)) ≡ behindLines count (drop from (now (text .entry))) ⌝ }
+    ensures range { λ r. ⌜ (from ≤ r) × Counts r (now (text .entry)) ⌝ }
+{
+    let mut place = from;
+    let mut passed = 0;
+    while passed < count {
+        place = behind(text, place_of(text, place, b'\n'));
+        passed += 1;
+    }
+    place
 }
 
 // The length that word `n` of a line names, at most that of a sheet; the greatest where it names none.

@@ -1,5 +1,5 @@
--- A buffer that is filled from its beginning: byte by byte, word by word, or part by part, each to the tail behind what
--- is written.
+-- A buffer that is filled from its beginning: element by element, word by word, or part by part, each to the tail
+-- behind what is written.
 -- Assumes nothing.
 use mathlib.Core.Path.{_≡_, refl, sym, _∙_, ap}
 use mathlib.Core.List.{List, [], _∷_, _++_, append-nil, append-assoc}
@@ -11,6 +11,7 @@ use lib.Seq.{set-at, take-at, drop-at, drop-drop, drop-cons, take-suc, append-sn
 use Rattle.terms.specs.Words.{bytesOf}
 use Rattle.terms.specs.Lists.{listed}
 use Rattle.terms.specs.Buffers.{over}
+use Rattle.sheets.proofs.ListedLaws.{listed-length, listed-next}
 use Rattle.sheets.proofs.BufferLaws.{over-length, part-to-end}
 use Rattle.sheets.proofs.SheetWithout.{listed-same}
 use Rattle.sheets.proofs.WrittenLaws.{written, written-length, written-next}
@@ -64,6 +65,12 @@ module _ (xs before : List ℕ) (n : ℕ) (size : length xs ≡ n) where
       longer : n + length ys ≡ length (xs ++ ys)
       longer = omega (arith, length-append xs ys)
 
+-- f i behind f 0 to f (i - 1), which are written
+pub over-next : (f : ℕ → ℕ) (before : List ℕ) (i : ℕ) → i < length before
+    → set (over (listed f i) before) i (f i) ≡ over (listed f (suc i)) before
+over-next f before i h =
+    over-one (listed f i) before i (listed-length f i) (f i) h ∙ ap (λ l. over l before) (sym (listed-next f i))
+
 -- the first i of the steps are done, and `steps i` is written
 module _ (steps : ℕ → List ℕ) (count : ℕ) (before : List ℕ) where
   pub record Filling (out : List ℕ) (i : ℕ) : Type 0 where
@@ -108,6 +115,15 @@ module _ {xs before out : List ℕ} {count i : ℕ} where
     where
       size : length (take i xs) ≡ i
       size = length-take-le i xs (omega arith)
+
+-- elements are written
+module _ (f : ℕ → ℕ) {before out : List ℕ} {count i x : ℕ} where
+  pub filling-element : count ≤ length before → Filling (listed f) count before out i → i < count → x ≡ f i
+      → Filling (listed f) count before (set out i x) (i + 1)
+  filling-element room at h e =
+      filling-next _ _ _ at (f i ∷ []) h (omega (arith, listed-length f i))
+      ((λ k. set (at .filled k) i (e k)) ∙ over-one (listed f i) before i (listed-length f i) (f i) (omega arith))
+      (listed-next f i)
 
 -- words are written
 module _ (f : ℕ → ℕ) {before out new : List ℕ} {count i w : ℕ} where

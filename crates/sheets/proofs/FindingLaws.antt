@@ -71,7 +71,7 @@ module _ (bytes : List ℕ) (work : ℕ) (w : Wanted) where
   find-refused number place e = ap (findAfter bytes w) e
 
   module _ (T C L : ℕ) (accepted : admitOf bytes work ≡ Accepted T C L) where
-    searched : findOf bytes work w ≡ searchLines (editionOf bytes) (linesIn bytes T C) L w
+    pub searched : findOf bytes work w ≡ searchLines (editionOf bytes) (linesIn bytes T C) L w
     unfolding findOf findAfter
     searched = ap (findAfter bytes w) accepted
 

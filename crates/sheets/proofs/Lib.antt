@@ -13,8 +13,11 @@ pub mod SameTables
 pub mod LineNumberLaws
 pub mod SheetWithout
 pub mod WithdrawalLaws
+pub mod ListedLaws
 pub mod FillingLaws
 pub mod AnsweredLaws
+pub mod BatchLaws
+pub mod OpeningLaws
 pub mod OutputLaws
 pub mod NormalityLaws
 pub mod LineSetLaws
@@ -30,3 +33,4 @@ pub mod KeptUseLaws
 pub mod LinesAwayLaws
 pub mod KeptWordLaws
 pub mod SetOutputLaws
+pub mod WalkPlaces

@@ -13,6 +13,8 @@ pub mod LineSets
 pub mod Numbering
 pub mod WithdrawalSet
 pub mod Answered
+pub mod Batch
+pub mod Opening
 pub mod SetOutput
 pub mod Singly
 pub mod KeptWords

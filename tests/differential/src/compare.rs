@@ -1,6 +1,7 @@
 //! Calls the reference and the proved library with equal arguments and compares all that they leave.
 
 use crate::coverage::Coverage;
+use crate::generate::judgments::{some_batch, some_judgment};
 use crate::generate::lists::some_list;
 use crate::random::Random;
 use crate::reference::layout::{Counts, LINE_ROW, MAX_TERMS, TRAILER};
@@ -12,16 +13,19 @@ use crate::reference::Answer;
 pub enum Call<'a> {
     Admit,
     Find([u32; 5]),
+    /// The words of the judgments.
+    FindAll(&'a [u32]),
     Withdraw(usize),
     WithdrawSet(&'a [usize]),
     Normal(usize),
 }
 
-/// The buffers that a call is given.
-#[derive(Clone, PartialEq, Eq)]
+/// The buffers that a call is given: for a new sheet, or for the answers of a batch.
+#[derive(Clone, Default, PartialEq, Eq)]
 pub struct Buffers {
     pub work: Vec<u32>,
     pub out: Vec<u8>,
+    pub answers: Vec<u16>,
 }
 
 /// What a call answered and left in its buffers.
@@ -35,6 +39,11 @@ impl Outcome {
     /// The sheet that a withdrawal wrote.
     pub fn written(&self) -> &[u8] {
         &self.buffers.out[..self.answer.values[0]]
+    }
+
+    /// The answers that a batch wrote.
+    pub fn found(&self) -> &[u16] {
+        &self.buffers.answers[..self.answer.values[0]]
     }
 }
 
@@ -94,20 +103,22 @@ impl Comparer<'_> {
             } else {
                 self.random.below(terms)
             };
-            let call = match self.random.below(6) {
+            let call = match self.random.below(7) {
                 0 => Call::Find([0; 5]),
                 1 => Call::Withdraw(0),
                 2 => Call::WithdrawSet(&[0, 0]),
                 3 => Call::Normal(self.number(terms)),
+                4 => Call::FindAll(&[0; 5]),
                 _ => Call::Admit,
             };
-            self.compare_call(call, short, self.sheet.len());
+            let room = self.random.pick(&[0, self.sheet.len()]).unwrap_or(0);
+            self.compare_call(call, short, room);
         }
     }
 
     fn compare_on_refused(&mut self) {
         let length = self.work_length();
-        match self.random.below(4) {
+        match self.random.below(5) {
             0 => self.compare_call(Call::Find([0, 0, 0, 0, 0]), length, 0),
             1 => {
                 let out = self.random.below(self.sheet.len() + 9);
@@ -119,6 +130,12 @@ impl Comparer<'_> {
                 let out = self.random.below(self.sheet.len() + 9);
                 self.compare_call(Call::WithdrawSet(list), length, out);
             }
+            3 => {
+                let words = [0; 14];
+                let list = &words[..self.random.below(words.len() + 1)];
+                let room = self.random.below(5);
+                self.compare_call(Call::FindAll(list), length, room);
+            }
             _ => {
                 let term = self.number(self.terms());
                 self.compare_call(Call::Normal(term), length, 0);
@@ -128,6 +145,7 @@ impl Comparer<'_> {
 
     fn compare_on_accepted(&mut self, counts: Counts) {
         self.compare_searches(counts);
+        self.compare_batches(counts);
         self.compare_withdrawals(counts);
         self.compare_withdrawn();
         self.compare_sets(counts);
@@ -137,9 +155,18 @@ impl Comparer<'_> {
 
     fn compare_searches(&mut self, counts: Counts) {
         for _ in 0..2 {
-            let wanted = self.wanted(counts);
+            let wanted = some_judgment(self.sheet, counts, self.random);
             let length = self.work_length();
             self.compare_call(Call::Find(wanted), length, 0);
+        }
+    }
+
+    fn compare_batches(&mut self, counts: Counts) {
+        for _ in 0..3 {
+            let list = some_batch(self.sheet, counts, self.random);
+            let length = self.work_length();
+            let room = self.answer_room(list.len() / 5);
+            self.compare_call(Call::FindAll(&list), length, room);
         }
     }
 
@@ -188,22 +215,6 @@ impl Comparer<'_> {
         self.differences.append(&mut comparer.differences);
     }
 
-    /// The numbers of some line's judgment, exactly or nearly.
-    fn wanted(&mut self, counts: Counts) -> [u32; 5] {
-        let mut wanted = [0; 5];
-        if counts.lines > 0 {
-            wanted = counts.judgment(self.sheet, self.random.below(counts.lines));
-        }
-        let place = self.random.below(5);
-        match self.random.below(6) {
-            0 => wanted[place] ^= 1,
-            1 => wanted[place] += 0x1_0000,
-            2 => wanted[place] = self.random.word() as u32,
-            _ => {}
-        }
-        wanted
-    }
-
     /// The number of a line or a term, of which there are so many: an existing one, most likely a late one, or none.
     fn number(&mut self, count: usize) -> usize {
         match self.random.below(11) {
@@ -233,14 +244,33 @@ impl Comparer<'_> {
         }
     }
 
-    fn compare_call(&mut self, call: Call, work_length: usize, out_length: usize) {
+    /// A length of the answers to so many judgments, most likely just enough.
+    fn answer_room(&mut self, judgments: usize) -> usize {
+        match self.random.below(8) {
+            0 => judgments.saturating_sub(1),
+            1 => self.random.below(judgments),
+            2 => 0,
+            3 => judgments + 1,
+            4 => judgments + self.random.below(40),
+            _ => judgments,
+        }
+    }
+
+    /// The room is that of what the call writes: bytes of a new sheet, or answers of a batch.
+    fn compare_call(&mut self, call: Call, work_length: usize, room: usize) {
         let work: Vec<u32> = (0..work_length)
             .map(|_| self.random.word() as u32)
             .collect();
         let fill = self.random.word();
-        let out: Vec<u8> = (0..out_length).map(|i| (fill >> (i % 57)) as u8).collect();
-        let (wanted, difference) = on_both(self.reading, self.sheet, call, Buffers { work, out });
-        self.coverage.add_answer(call, wanted.answer);
+        let filled = (0..room as u32).map(|i| fill.rotate_right(i));
+        let (mut out, mut answers) = (Vec::new(), Vec::new());
+        match call {
+            Call::FindAll(_) => answers.extend(filled.map(|word| word as u16)),
+            _ => out.extend(filled.map(|word| word as u8)),
+        }
+        let buffers = Buffers { work, out, answers };
+        let (wanted, difference) = on_both(self.reading, self.sheet, call, buffers);
+        self.coverage.add_outcome(call, &wanted);
         self.differences.extend(difference);
         let writes = matches!(call, Call::Withdraw(_) | Call::WithdrawSet(_));
         if writes && wanted.answer.number == 0 {
@@ -263,10 +293,11 @@ pub fn on_both(
 }
 
 fn by_reference(reading: &Reading, sheet: &[u8], call: Call, mut buffers: Buffers) -> Outcome {
-    let Buffers { work, out } = &mut buffers;
+    let Buffers { work, out, answers } = &mut buffers;
     let answer = match call {
         Call::Admit => reading.admit(work),
         Call::Find(wanted) => reading.find(sheet, work, wanted),
+        Call::FindAll(wanted) => reading.find_all(sheet, work, wanted, answers),
         Call::Withdraw(line) => reading.withdraw(sheet, line, work, out),
         Call::WithdrawSet(list) => reading.withdraw_set(sheet, list, work, out),
         Call::Normal(term) => reading.normal(term, work),
@@ -275,10 +306,11 @@ fn by_reference(reading: &Reading, sheet: &[u8], call: Call, mut buffers: Buffer
 }
 
 fn by_library(sheet: &[u8], call: Call, mut buffers: Buffers) -> Outcome {
-    let Buffers { work, out } = &mut buffers;
+    let Buffers { work, out, answers } = &mut buffers;
     let answer = match call {
         Call::Admit => mengyubad::admit(sheet, work),
         Call::Find(wanted) => mengyubad::find(sheet, work, wanted),
+        Call::FindAll(wanted) => mengyubad::find_all(sheet, work, wanted, answers),
         Call::Withdraw(line) => mengyubad::withdraw(sheet, line, work, out),
         Call::WithdrawSet(list) => mengyubad::withdraw_set(sheet, list, work, out),
         Call::Normal(term) => mengyubad::normal(sheet, term, work),
@@ -302,10 +334,13 @@ fn difference(call: Call, wanted: &Outcome, got: &Outcome) -> String {
     let (old, new) = (&wanted.buffers, &got.buffers);
     let word = first_difference(&old.work, &new.work);
     let byte = first_difference(&old.out, &new.out);
+    let answer = first_difference(&old.answers, &new.answers);
     format!(
-        "{call:?} with {} work words and {} output bytes: reference {:?}, library {:?}, first work word that differs {word:?}, first output byte {byte:?}",
+        "{call:?} with {} work words, {} output bytes and {} words for answers: reference {:?}, library {:?}, \
+         first work word that differs {word:?}, first output byte {byte:?}, first answer {answer:?}",
         old.work.len(),
         old.out.len(),
+        old.answers.len(),
         wanted.answer,
         got.answer,
     )

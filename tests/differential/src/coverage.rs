@@ -1,10 +1,10 @@
 //! What a run has seen.
 
-use crate::compare::Call;
+use crate::compare::{Call, Outcome};
+use crate::reference::calls::ABSENT;
 use crate::reference::layout::{word, Counts, LAST_EDITION};
 use crate::reference::reading::Reading;
 use crate::reference::rules::LAST_RULE;
-use crate::reference::Answer;
 use std::fmt;
 
 /// Runs of at least this many inputs have the greater goals.
@@ -12,12 +12,15 @@ const FULL_RUN: u64 = 100_000;
 const FULL_GOAL: u64 = 1_000;
 
 /// The numbers that a call on a sheet may answer, 0 the successful ones; 15 and 16 are about dates.
-const NUMBERS: [usize; 17] = [0, 1, 2, 3, 4, 5, 6, 7, 8, 9, 10, 11, 12, 13, 14, 17, 18];
+const NUMBERS: [usize; 18] = [0, 1, 2, 3, 4, 5, 6, 7, 8, 9, 10, 11, 12, 13, 14, 17, 18, 19];
 
 /// What sets of lines are counted under.
 const SETS: [&str; 7] = [
     "empty", "one line", "several", "by 11", "by 12", "by 13", "by 18",
 ];
+
+/// What batches are counted under.
+const BATCHES: [&str; 5] = ["empty", "one judgment", "several", "by 19", "by admission"];
 
 /// Lines by rule; there is no rule 0.
 pub type ByRule = [u64; LAST_RULE as usize + 1];
@@ -32,9 +35,15 @@ pub struct Coverage {
     /// Lines that the generator made as instances and the reference refused.
     pub unfit: u64,
     /// Answers by number over all calls.
-    pub numbers: [u64; 19],
+    pub numbers: [u64; 20],
     /// Sets of lines of accepted sheets: withdrawn, by how many there are, and refused; as `SETS` says.
     pub sets: [u64; SETS.len()],
+    /// Batches answered, by how many judgments there are, and refused; as `BATCHES` says.
+    pub batches: [u64; BATCHES.len()],
+    /// Judgments of the batches answered that a line states, and that none does.
+    pub judgments: [u64; 2],
+    /// Batches answered with words that make no whole judgment, and with answers beyond the list.
+    pub longer: [u64; 2],
     /// Terms that are not normal, and terms that are.
     pub terms: [u64; 2],
     pub accepted_lines: ByRule,
@@ -51,8 +60,11 @@ impl Default for Coverage {
             calls: 0,
             differences: 0,
             unfit: 0,
-            numbers: [0; 19],
+            numbers: [0; 20],
             sets: [0; SETS.len()],
+            batches: [0; BATCHES.len()],
+            judgments: [0; 2],
+            longer: [0; 2],
             terms: [0; 2],
             accepted_lines: NO_LINES,
             refused_lines: NO_LINES,
@@ -88,7 +100,8 @@ impl Coverage {
         }
     }
 
-    pub fn add_answer(&mut self, call: Call, answer: Answer) {
+    pub fn add_outcome(&mut self, call: Call, outcome: &Outcome) {
+        let answer = outcome.answer;
         self.calls += 1;
         self.numbers[answer.number] += 1;
         match (call, answer.number) {
@@ -96,8 +109,21 @@ impl Coverage {
             (Call::WithdrawSet(list), 0) => self.sets[list.len().min(2)] += 1,
             (Call::WithdrawSet(_), number @ 11..=13) => self.sets[number - 8] += 1,
             (Call::WithdrawSet(_), 18) => self.sets[6] += 1,
+            (Call::FindAll(wanted), 0) => self.add_batch(wanted, outcome),
+            (Call::FindAll(_), 19) => self.batches[3] += 1,
+            (Call::FindAll(_), _) => self.batches[4] += 1,
             _ => {}
         }
+    }
+
+    fn add_batch(&mut self, wanted: &[u32], outcome: &Outcome) {
+        let found = outcome.found();
+        self.batches[found.len().min(2)] += 1;
+        for &line in found {
+            self.judgments[usize::from(line == ABSENT)] += 1;
+        }
+        self.longer[0] += u64::from(wanted.len() > 5 * found.len());
+        self.longer[1] += u64::from(outcome.buffers.answers.len() > found.len());
     }
 
     pub fn all_accepted(&self) -> u64 {
@@ -145,6 +171,12 @@ impl Coverage {
         if self.sets.iter().any(|&count| count < goal) {
             missed.push(format!("fewer than {goal} sets of lines of some kind"));
         }
+        let searched = [&self.batches[..], &self.judgments, &self.longer].concat();
+        if searched.iter().any(|&count| count < goal) {
+            missed.push(format!(
+                "fewer than {goal} batches or their judgments of some kind"
+            ));
+        }
         for number in NUMBERS.iter().filter(|&&n| self.numbers[n] == 0) {
             missed.push(format!("number {number} was never answered"));
         }
@@ -165,7 +197,15 @@ fn domain(sheet: &[u8], counts: Counts, line: usize) -> usize {
     }
 }
 
-/// The two tables, the sets of lines, and the readings of rule 38.
+/// The counts with their kinds: of what was done, the first three, and of what was refused.
+fn counted(kinds: &[&str], counts: &[u64]) -> [String; 2] {
+    let each = |(kind, count)| format!("{kind} {count}");
+    let all: Vec<String> = kinds.iter().zip(counts).map(each).collect();
+    let (done, refused) = all.split_at(3);
+    [done, refused].map(|some| some.join(", "))
+}
+
+/// The two tables, the sets of lines, the batches, and the readings of rule 38.
 impl Coverage {
     fn write_numbers(&self, f: &mut fmt::Formatter) -> fmt::Result {
         writeln!(f, "number  answers")?;
@@ -177,15 +217,19 @@ impl Coverage {
     }
 
     fn write_sets(&self, f: &mut fmt::Formatter) -> fmt::Result {
-        let counted = |i: usize| format!("{} {}", SETS[i], self.sets[i]);
-        let all: Vec<String> = (0..SETS.len()).map(counted).collect();
-        let (withdrawn, refused) = all.split_at(3);
-        writeln!(
+        let [withdrawn, refused] = counted(&SETS, &self.sets);
+        writeln!(f, "sets withdrawn: {withdrawn}; refused: {refused}")
+    }
+
+    fn write_batches(&self, f: &mut fmt::Formatter) -> fmt::Result {
+        let [answered, refused] = counted(&BATCHES, &self.batches);
+        let ([stated, absent], [words, answers]) = (self.judgments, self.longer);
+        writeln!(f, "batches answered: {answered}; refused: {refused}")?;
+        write!(
             f,
-            "sets withdrawn: {}; refused: {}",
-            withdrawn.join(", "),
-            refused.join(", ")
-        )
+            "with words left over {words}, answers beyond {answers}, "
+        )?;
+        writeln!(f, "judgments stated {stated}, absent {absent}")
     }
 
     fn write_rules(&self, f: &mut fmt::Formatter) -> fmt::Result {
@@ -213,6 +257,7 @@ impl fmt::Display for Coverage {
         writeln!(f, "calls compared {}", self.calls)?;
         self.write_numbers(f)?;
         self.write_sets(f)?;
+        self.write_batches(f)?;
         self.write_rules(f)?;
         self.write_domains(f)?;
         writeln!(f, "differences {}", self.differences)

@@ -32,7 +32,7 @@ impl Asked {
     fn is_normal(&self, term: usize) -> bool {
         let buffers = Buffers {
             work: vec![0xA5A5_A5A5; self.rows() + term % 2],
-            out: Vec::new(),
+            ..Buffers::default()
         };
         let (outcome, difference) =
             on_both(&self.reading, &self.sheet, Call::Normal(term), buffers);

@@ -57,7 +57,7 @@ fn refusal(rows: &[Row]) -> Option<Refusal> {
     let sheet = sheet_of(rows);
     let buffers = Buffers {
         work: vec![UNTOUCHED; rows.len() + 2],
-        out: Vec::new(),
+        ..Buffers::default()
     };
     let (outcome, difference) = on_both(&Reading::of(&sheet), &sheet, Call::Admit, buffers);
     assert_eq!(difference, None);

@@ -3,7 +3,7 @@
 use differential::compare::{on_both, Buffers, Call, Outcome};
 use differential::dates;
 use differential::reference::dates::{Calendar, Date};
-use differential::reference::layout::{LINE_ROW, MAX_LENGTH, MAX_TERMS};
+use differential::reference::layout::{Counts, LINE_ROW, MAX_LENGTH, MAX_TERMS};
 use differential::reference::reading::Reading;
 use differential::reference::Answer;
 use std::fs;
@@ -72,11 +72,15 @@ fn sheets() -> Vec<(PathBuf, Vec<u8>)> {
     paths.filter(named).map(read).chain(bundled).collect()
 }
 
-/// What a call leaves, with a full work buffer and an output of so many bytes.
+/// What an answer of a batch is before it is written, as in the list of answers.
+const ANSWER: u16 = 50505;
+
+/// What a call leaves, with a full work buffer and so much room for what it writes.
 fn full(sheet: &[u8], call: Call, room: usize) -> Outcome {
     let buffers = Buffers {
         work: vec![0; MAX_TERMS],
         out: vec![0; room],
+        answers: vec![ANSWER; room],
     };
     let (outcome, difference) = on_both(&Reading::of(sheet), sheet, call, buffers);
     assert_eq!(difference, None);
@@ -150,6 +154,24 @@ fn set_withdrawals(text: &mut Vec<String>) {
     assert!(expected.is_empty());
 }
 
+/// A row of a batch is a sheet, the room for answers and the number of judgments, which stand in the rows behind it.
+/// Every word of the answers is printed.
+fn batches(list: &str, text: &mut Vec<String>) {
+    let rows = rows(list);
+    let mut left = &rows[..];
+    while let [row, behind @ ..] = left {
+        let [room, count] = [1, 2].map(|place: usize| row[place].parse().expect("a number"));
+        let (judgments, behind) = behind.split_at(count);
+        let words = judgments.iter().flatten();
+        let words: Vec<u32> = words.map(|w| w.parse().expect("a number")).collect();
+        let found = full(&sheet(&row[0]), Call::FindAll(&words), room);
+        let mut answers = vec![printed(found.answer, 1)];
+        answers.extend(found.buffers.answers.iter().map(u16::to_string));
+        text.push(format!("{} {}", row.join(" "), answers.join(" ")));
+        left = behind;
+    }
+}
+
 /// The date of a word `YEAR-MONTH-DAY`.
 fn date(word: &str) -> Date {
     let parts = word.split('-').map(|part| part.parse().expect("a number"));
@@ -209,6 +231,8 @@ fn answers_are_those_of_the_samples() {
     normal_terms(&mut text);
     bundled_admissions(&mut text);
     set_withdrawals(&mut text);
+    batches("batch.list", &mut text);
+    batches("batch_lowest.list", &mut text);
     let wanted: Vec<&str> = wanted.lines().collect();
     assert_eq!(text.len(), wanted.len());
     for (got, wanted) in text.iter().zip(wanted) {
@@ -228,6 +252,7 @@ impl Sample<'_> {
         let buffers = Buffers {
             work: vec![0xA5A5_A5A5; words],
             out: vec![0x5A; room],
+            answers: vec![ANSWER; room],
         };
         let (_, difference) = on_both(&self.reading, self.sheet, call, buffers);
         assert_eq!(difference, None, "{}", self.path.display());
@@ -243,6 +268,22 @@ impl Sample<'_> {
         self.compare(Call::Withdraw(line), words, length);
         self.compare(Call::Withdraw(line), words + 1, enough);
         self.compare(Call::Withdraw(line), words, enough.saturating_sub(1));
+    }
+
+    /// Finds the judgments of all lines; none; and those that the same words make from the fourth on, some at the end
+    /// being left over.
+    fn compare_batches(&self, counts: Counts) {
+        let lines = 0..counts.lines;
+        let stated: Vec<u32> = lines
+            .flat_map(|line| counts.judgment(self.sheet, line))
+            .collect();
+        for list in [&stated[..], &[], &stated[stated.len().min(3)..]] {
+            let enough = list.len() / 5;
+            self.compare(Call::FindAll(list), counts.terms, enough + 3);
+            self.compare(Call::FindAll(list), counts.terms + 1, enough);
+            let short = enough.saturating_sub(1);
+            self.compare(Call::FindAll(list), counts.terms, short);
+        }
     }
 
     /// Withdraws no line, all lines, the later half and every other line.
@@ -265,6 +306,10 @@ impl Sample<'_> {
             .map_or((0, 0), |counts| (counts.terms, counts.lines));
         self.compare(Call::Admit, terms, 0);
         self.compare(Call::Admit, terms.saturating_sub(1), 0);
+        self.compare(Call::FindAll(&[0; 5]), terms, 0);
+        if let Some(counts) = self.reading.counts {
+            self.compare_batches(counts);
+        }
         // Some dozens of lines of a full sheet, which are all equal, the last among them, and one that is none.
         let step = 1 + lines * terms / 100_000;
         for line in (0..lines).rev().step_by(step).chain([lines]) {
@@ -317,7 +362,7 @@ fn work_buffers_are_those_of_the_samples() {
         let sheet = sheet(&row[0]);
         let buffers = Buffers {
             work: (0x5A00_0000..).take(length).collect(),
-            out: Vec::new(),
+            ..Buffers::default()
         };
         let call = Call::Normal(term);
         let (outcome, difference) = on_both(&Reading::of(&sheet), &sheet, call, buffers);

@@ -1,35 +1,16 @@
 //! Sets of lines to withdraw: every short list of numbers on one sheet, every set of lines of small sheets, which
 //! single withdrawals by the library answer too, and large sets of full sheets.
 
-use differential::compare::{on_both, Buffers, Call, Outcome};
-use differential::generate::encode::{encode, Style};
-use differential::generate::grow::{grow, Kind};
-use differential::random::Random;
-use differential::reference::layout::{Counts, LINE_ROW, MAX_LENGTH, MAX_TERMS};
-use differential::reference::reading::Reading;
-use std::fs;
-use std::path::PathBuf;
+#[path = "common/sheets.rs"]
+mod sheets;
 
-fn sample(name: &str) -> Vec<u8> {
-    let data = PathBuf::from(env!("CARGO_MANIFEST_DIR")).join("../../crates/samples/data");
-    fs::read(data.join(name)).expect("a sample sheet")
-}
-
-/// A sheet, with what the reference reads in it.
-struct Sheet {
-    bytes: Vec<u8>,
-    reading: Reading,
-}
+use differential::compare::{Call, Outcome};
+use differential::reference::layout::{LINE_ROW, MAX_LENGTH, MAX_TERMS};
+use sheets::Sheet;
 
 impl Sheet {
-    fn new(bytes: Vec<u8>) -> Sheet {
-        let reading = Reading::of(&bytes);
-        assert_eq!(reading.refusal, None);
-        Sheet { bytes, reading }
-    }
-
     fn lines(&self) -> usize {
-        Counts::stated(&self.bytes).lines
+        self.counts().lines
     }
 
     /// The length without so many lines.
@@ -39,14 +20,7 @@ impl Sheet {
 
     /// What both leave.
     fn withdraw(&self, list: &[usize], room: usize) -> Outcome {
-        let buffers = Buffers {
-            work: vec![0xA5A5_A5A5; self.reading.sizes.len()],
-            out: vec![0x5A; room],
-        };
-        let call = Call::WithdrawSet(list);
-        let (outcome, difference) = on_both(&self.reading, &self.bytes, call, buffers);
-        assert_eq!(difference, None);
-        outcome
+        self.call(Call::WithdrawSet(list), room)
     }
 
     /// The number answered with just the room that is needed; with a byte less it is 13 for 0, and otherwise the same.
@@ -80,7 +54,7 @@ impl Sheet {
 /// Each line of S but the first rests on the one before it, so that six sets are closed.
 #[test]
 fn every_list_of_up_to_five_numbers() {
-    let sheet = Sheet::new(sample("S.sheet"));
+    let sheet = Sheet::sample("S.sheet");
     let mut answered = [0; 19];
     let mut lists = vec![Vec::new()];
     for _ in 0..=5 {
@@ -103,15 +77,7 @@ fn every_list_of_up_to_five_numbers() {
 #[test]
 fn every_set_of_lines_of_small_sheets() {
     let mut answered = [0; 19];
-    for seed in 0..120 {
-        let mut maker = grow(seed, Kind::Tiny);
-        let lines = maker.d.lines.clone();
-        let random = &mut Random::new(seed);
-        let bytes = encode(&mut maker.d.terms, &lines, Style::default(), random);
-        let sheet = Sheet::new(bytes);
-        if sheet.lines() > 9 {
-            continue;
-        }
+    for (place, sheet) in sheets::small().enumerate() {
         for set in 0..1usize << sheet.lines() {
             let list: Vec<usize> = (0..sheet.lines()).filter(|l| set >> l & 1 == 1).collect();
             let outcome = sheet.withdraw(&list, sheet.length_without(list.len()));
@@ -120,7 +86,7 @@ fn every_set_of_lines_of_small_sheets() {
                 0 => Ok(outcome.written().to_vec()),
                 number => Err((number, answer.values[0])),
             };
-            assert_eq!(whole, sheet.singly(&list), "seed {seed}, {list:?}");
+            assert_eq!(whole, sheet.singly(&list), "sheet {place}, {list:?}");
             answered[answer.number] += 1;
         }
     }
@@ -133,7 +99,7 @@ fn every_set_of_lines_of_small_sheets() {
 #[test]
 fn large_sets_of_full_sheets() {
     for name in ["bytes_52240.sheet", "lines_1024.sheet"] {
-        let sheet = Sheet::new(sample(name));
+        let sheet = Sheet::sample(name);
         let lines = sheet.lines();
         assert_eq!(lines, 1024);
         for first in [0, 1, 2, 512, 1022, 1023, 1024] {

@@ -1,5 +1,6 @@
 use mathlib.Core.Path.{_∙_, ap}
-use Rattle.mengyubad.specs.Replies.{foundReply, wantedOf}
+use Rattle.sheets.specs.Batch.{wantedOf}
+use Rattle.mengyubad.specs.Replies.{foundReply}
 use Rattle.mengyubad.proofs.ReplyLaws.{given-equal}
 use borrow.Author.Needs.{needs}
 use Rattle.mengyubad.proofs.mengyubad_find.Statement.{statement}

@@ -1,4 +1,5 @@
-//! Valid derivations at random and their encoding as sheets; term tables of all kinds; lists of lines to withdraw.
+//! Valid derivations at random and their encoding as sheets; term tables of all kinds; judgments to find; lists of
+//! lines to withdraw.
 
 pub mod arrange;
 pub mod conclusions;
@@ -10,6 +11,7 @@ pub mod grow;
 mod inductions;
 mod infer;
 mod inhabit;
+pub mod judgments;
 pub mod lists;
 pub mod maker;
 mod non_instances;

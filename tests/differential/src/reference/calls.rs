@@ -1,10 +1,13 @@
-//! The calls: admission, finding, withdrawal of a line and of a set of lines, and the question whether a term is
-//! normal, with what they leave in the buffers.
+//! The calls: admission, finding of a judgment and of a batch, withdrawal of a line and of a set of lines, and the
+//! question whether a term is normal, with what they leave in the buffers.
 
 use super::layout::{set_word, word, Counts, LINE_ROW};
 use super::reading::Reading;
 use super::rules::premise_count;
 use super::{done, refused, Answer, Refusal};
+
+/// What a batch answers where a single search gives 14.
+pub const ABSENT: u16 = 65_535;
 
 /// The calls on a sheet that is read already.
 impl Reading {
@@ -43,6 +46,33 @@ impl Reading {
             Some(line) => done(line),
             None => refused(14, 0),
         }
+    }
+
+    /// Finds each judgment of a list by a single search. It is given as words, of which only whole judgments count.
+    pub fn find_all(
+        &self,
+        sheet: &[u8],
+        work: &mut [u32],
+        wanted: &[u32],
+        answers: &mut [u16],
+    ) -> Answer {
+        if let Err(answer) = self.accept(work) {
+            return answer;
+        }
+        let judgments = wanted.chunks_exact(5);
+        let count = judgments.len();
+        if answers.len() < count {
+            return refused(19, 0);
+        }
+        for (answer, judgment) in answers.iter_mut().zip(judgments) {
+            let judgment = judgment.try_into().expect("five words");
+            let found = self.find(sheet, work, judgment);
+            *answer = match found.number {
+                0 => found.values[0] as u16,
+                _ => ABSENT,
+            };
+        }
+        done(count)
     }
 
     pub fn withdraw(&self, sheet: &[u8], line: usize, work: &mut [u32], out: &mut [u8]) -> Answer {

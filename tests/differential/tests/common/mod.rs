@@ -18,7 +18,7 @@ pub fn is_admitted(maker: &mut Maker, line: Line) -> bool {
     let reading = Reading::of(&sheet);
     let buffers = Buffers {
         work: vec![0; reading.sizes.len()],
-        out: Vec::new(),
+        ..Buffers::default()
     };
     let (outcome, difference) = on_both(&reading, &sheet, Call::Admit, buffers);
     assert_eq!(difference, None);

@@ -1,0 +1,96 @@
+use mathlib.Core.Path.{sym, _∙_}
+use native.Mathlib.Omega.{arith}
+use borrow.Author.Needs.{needs}
+use Rattle.sheets.proofs.AnswerLaws.{accepted-laid}
+use Rattle.sheets.proofs.OpeningLaws.{opened-refused, opened-19, opened-all}
+use Rattle.sheets.proofs.opening.open_batch.Statement.{statement}
+use Rattle.sheets.proofs.opening.open_batch.Tie as tie
+
+admit-requires : tie.Need-admit-requires
+admit-requires c κs = search needs
+
+enum-known-number : tie.Need-enum-known-number
+enum-known-number c = search needs
+
+not-opened-requires : tie.Need-not-opened-requires
+not-opened-requires c κs = search needs
+
+enum-known-terms : tie.Need-enum-known-terms
+enum-known-terms c = search needs
+
+not-opened-requires-2 : tie.Need-not-opened-requires-2
+not-opened-requires-2 c κs = search needs
+
+same-length : tie.Need-same-length
+same-length c = search needs
+
+returns : tie.Need-returns
+returns c =
+    let read = c .before .before .before in
+    let admitted = read .before .before .before .before .admit .ensures in
+    let accepted : _ = sym (admitted .0) ∙ read .terms .given .1 in
+    (c .not-opened2 .ensures ∙ sym (opened-19 _ _ _ _ _ _ _ accepted (c .before .if1 .taken)), admitted .1)
+
+edition-of-requires : tie.Need-edition-of-requires
+edition-of-requires c κs =
+    let read = c .before .before in
+    let admitted = read .before .before .before .before .admit .ensures in
+    omega (arith, accepted-laid _ _ _ _ _ _ (admitted .0) (read .terms .given .1))
+
+mul-t16 : tie.Need-mul-t16
+mul-t16 c =
+    let read = c .before .before .before in
+    let admitted = read .before .before .before .before .admit .ensures in
+    omega (arith, accepted-laid _ _ _ _ _ _ (admitted .0) (read .terms .given .1))
+
+mul-t17 : tie.Need-mul-t17
+mul-t17 c =
+    let read = c .before .before .before in
+    let admitted = read .before .before .before .before .admit .ensures in
+    omega (arith, accepted-laid _ _ _ _ _ _ (admitted .0) (read .terms .given .1))
+
+add-t18 : tie.Need-add-t18
+add-t18 c =
+    let read = c .before .before .before in
+    let admitted = read .before .before .before .before .admit .ensures in
+    omega (arith, accepted-laid _ _ _ _ _ _ (admitted .0) (read .terms .given .1))
+
+same-length-2 : tie.Need-same-length-2
+same-length-2 c = search needs
+
+returns-2 : tie.Need-returns-2
+returns-2 c =
+    let read = c .before .before in
+    let admitted = read .before .before .before .before .admit .ensures in
+    let refused : _ = sym (admitted .0) ∙ read .number .given .1 in
+    (c .not-opened .ensures ∙ sym (opened-refused _ _ _ _ _ _ refused), admitted .1)
+
+same-length-3 : tie.Need-same-length-3
+same-length-3 c = search needs
+
+returns-3 : tie.Need-returns-3
+returns-3 c =
+    let read = c .before .before .before in
+    let admitted = read .before .before .before .before .admit .ensures in
+    let accepted : _ = sym (admitted .0) ∙ read .terms .given .1 in
+    (opened-all _ _ _ _ _ _ _ accepted (c .edition-of .ensures) (c .before .if1 .left), admitted .1)
+
+pub open-batch-spec : {M : Type 1} → statement M
+open-batch-spec =
+    tie.close
+    (tie.spec
+    admit-requires
+    enum-known-number
+    not-opened-requires
+    enum-known-terms
+    not-opened-requires-2
+    same-length
+    returns
+    edition-of-requires
+    mul-t16
+    mul-t17
+    add-t18
+    same-length-2
+    returns-2
+    same-length-3
+    returns-3)
