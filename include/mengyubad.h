@@ -13,9 +13,9 @@
  * Stack: terms are walked by recursion, at most 3,072 levels deep. Measured on admission, which the other functions on
  * sheets begin with, by tests/c/stack.c: a level takes 240 bytes where a term is substituted in and fewer where it is
  * raised, and the rest 12.7 KB, so that 3,072 levels take 750 KB. The deepest walk of a sheet that it builds, some
- * 2,030 levels, takes 452 KB. A batch takes 0.1 KB more; withdrawal, of a line or of a set, takes 5 KB more, 755 KB at
- * 3,072 levels. A normal term of 3,072 levels is marked in 642 KB, measured there too. The two functions on dates walk
- * no terms and need little stack.
+ * 2,030 levels, takes 452 KB. A search or a batch takes 2.2 KB more, for the heights of the lines; withdrawal, of a
+ * line or of a set, takes 5 KB more, 755 KB at 3,072 levels. A normal term of 3,072 levels is marked in 642 KB,
+ * measured there too. The two functions on dates walk no terms and need little stack.
  *
  * Every function returns 0, or the number of a refusal, and sets all three words of `values`:
  *   0       mengyubad_admit: T, C, L; mengyubad_find: the line, 0, 0; mengyubad_find_all: the number of judgments,
@@ -85,8 +85,10 @@ enum { MENGYUBAD_ABSENT = 65535 };
 size_t mengyubad_admit(const uint8_t *sheet, size_t sheet_length, uint32_t *work, size_t work_words, size_t values[3]);
 
 /*
- * Admits a sheet, then finds the lowest line whose form (0 to 6), context, s1, s2 and s3 are the five numbers wanted,
- * as they stand in the sheet. Returns 0, 1 to 10, or 14.
+ * Admits a sheet, then finds the line whose form (0 to 6), context, s1, s2 and s3 are the five numbers wanted, as they
+ * stand in the sheet: of several such lines the one of least height, and of those the one with the highest number. A
+ * line's height is 0 if its rule has no premise, else one more than the greatest height among the lines that it cites.
+ * Returns 0, 1 to 10, or 14.
  */
 size_t mengyubad_find(const uint8_t *sheet, size_t sheet_length, uint32_t *work, size_t work_words,
                       const uint32_t wanted[5], size_t values[3]);

@@ -72,6 +72,11 @@ impl Input {
         self.with("normal in", Call::Normal(largest_normal(&self.sheet)))
     }
 
+    /// A search for the last line's judgment.
+    fn find(&self) -> Input {
+        self.with("find in", Call::Find(judgments(&self.sheet, 1)[0]))
+    }
+
     /// Finding a batch of judgments, those of lines that lie evenly in the sheet: at once, one by one, and at once with
     /// another s3, so that no line states them.
     fn batches(&self) -> [Input; 3] {
@@ -143,8 +148,7 @@ impl Input {
     /// The admission, a search for the last line's judgment, the withdrawal of the last line, and `normal`.
     fn all_calls(self) -> [Input; 4] {
         let [_, _, lines] = self.counts();
-        let last = judgments(&self.sheet, 1)[0];
-        let find = self.with("find in", Call::Find(last));
+        let find = self.find();
         let withdraw = self.with("withdraw from", Call::Withdraw(lines - 1));
         let normal = self.normal();
         [self, find, withdraw, normal]
@@ -171,6 +175,10 @@ pub fn single() -> Vec<Input> {
     all.extend(full.all_calls());
     all.extend(batches);
     all.extend(sets);
+    let restated = admit("restated", sheets::restated(64, 1024));
+    let [batch, ..] = restated.batches();
+    let find = restated.find();
+    all.extend([restated, find, batch]);
     all.push(admit("equal heads", sheets::equal_heads(3072, 256, 1024)));
     all.push(admit("one bucket", sheets::one_bucket()));
     all.push(admit("deep context", sheets::deep_context(252)));

@@ -31,7 +31,7 @@ fn list(name: &str) -> String {
 
 /// The batches of the lists, each by its first line and the words of its judgments, which stand in the lines behind it.
 fn batches() -> Vec<(String, Vec<u32>)> {
-    let text = list("batch.list") + &list("batch_lowest.list");
+    let text = list("batch.list") + &list("batch_heights.list");
     let mut lines = text.lines();
     let mut batches = Vec::new();
     while let Some(line) = lines.next() {
@@ -271,6 +271,15 @@ fn batches_are_answered_as_listed() {
         let mut answers = vec![printed(answer, 1)];
         answers.extend(buffers.answers.iter().map(u16::to_string));
         assert_eq!(format!("{question} {}", answers.join(" ")), line);
+    }
+}
+
+/// Sheets whose judgments are stated many times, at heights that differ.
+#[test]
+fn judgments_of_many_lines_are_answered_alike() {
+    let mut checker = Checker::new();
+    for (numbers, lines) in [(1, 30), (2, 60), (5, 150), (20, 199), (64, 1024)] {
+        batches_are_alike(&mut checker, &sheets::restated(numbers, lines));
     }
 }
 

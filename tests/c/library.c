@@ -1,9 +1,10 @@
 /*
  * Calls the library from C: admits S, finds a judgment and batches of judgments, withdraws a line and sets of lines,
  * marks normal terms, numbers days and asks windows. Prints nothing if all is as document 01 says, and for dates,
- * normal terms, editions, sets of lines and batches document 02, A1, A2, A5, A6 and A7.
+ * normal terms, editions, sets of lines, batches and heights document 02, A1, A2 and A5 to A8.
  */
 #include <inttypes.h>
+#include <stdbool.h>
 #include <stdio.h>
 #include <string.h>
 
@@ -227,6 +228,37 @@ static size_t over_nat(uint8_t *sheet, const unsigned (*lines)[10], unsigned cou
     return (size_t)(at - sheet);
 }
 
+/* Lines 2 to 5 state Nat = Nat at U_0, at heights 2, 3, 2, 3; lines 0 and 6 that the empty context is well formed. */
+static void finds_least_heights(void)
+{
+    enum { BYTES = 190, COUNT = 4 };
+    static const unsigned lines[7][10] = {
+        {0, 1, 0, 0, 0, 0, 0, 0, 0, 0},
+        {1, 12, 0, 0, 0, 1, 0, 0, 0, 0},
+        {2, 17, 0, 0, 0, 1, 1, 0, 0, 0},
+        {2, 18, 0, 0, 0, 1, 2, 0, 0, 0},
+        {2, 17, 0, 0, 0, 1, 1, 0, 0, 0},
+        {2, 18, 0, 0, 0, 1, 4, 0, 0, 0},
+        {0, 1, 0, 0, 0, 0, 0, 0, 0, 0}
+    };
+    static const uint32_t wanted[COUNT][5] = {{2, 0, 0, 0, 1}, {0, 0, 0, 0, 0}, {1, 0, 0, 0, 1}, {2, 0, 0, 0, 0}};
+    static const uint16_t found[COUNT] = {4, 6, 1, MENGYUBAD_ABSENT};
+    uint8_t sheet[BYTES];
+    uint32_t work[3];
+    uint16_t answers[COUNT];
+    size_t values[3] = {9, 9, 9};
+    expect_length("seven lines", over_nat(sheet, lines, 7), BYTES);
+    for (size_t i = 0; i < COUNT; i++) {
+        const bool absent = found[i] == MENGYUBAD_ABSENT;
+        const size_t number = mengyubad_find(sheet, BYTES, work, 3, wanted[i], values);
+        expect("a judgment of several lines", number, values, absent ? MENGYUBAD_NOT_FOUND : MENGYUBAD_OK,
+               absent ? 0 : found[i], 0, 0);
+    }
+    const size_t number = mengyubad_find_all(sheet, BYTES, work, 3, *wanted, 5 * COUNT, answers, COUNT, values);
+    expect("judgments of several lines", number, values, MENGYUBAD_OK, COUNT, 0, 0);
+    expect_same("judgments of several lines", answers, found, sizeof answers);
+}
+
 /* Lines 3 and 5 rest on line 1, the others on line 0. Without the former, line 2 is 1 and line 4, which cites it, 2. */
 static void lowers_premises(void)
 {
@@ -441,6 +473,7 @@ int main(void)
     admits_editions();
     finds(s);
     finds_all(s);
+    finds_least_heights();
     withdraws(s);
     withdraws_last_lines(s);
     lowers_premises();

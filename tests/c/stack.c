@@ -1,7 +1,7 @@
 /*
- * Measures the stack that admission, a batch of searches, the withdrawal of a set of lines and the marking of a normal
- * term take, on a stack of its own that is painted before each call. With no argument it prints nothing, and it fails
- * if the header's figure does not cover 3,072 levels; with one it prints what it measured.
+ * Measures the stack that admission, a search, a batch of searches, the withdrawal of a set of lines and the marking of
+ * a normal term take, on a stack of its own that is painted before each call. With no argument it prints nothing, and
+ * it fails if the header's figure does not cover 3,072 levels; with one it prints what it measured.
  *
  * Terms are walked by recursion. Each level of a typed term has a line of its own, so that the lines of a sheet allow a
  * term of some thousand levels. Two sheets are built over c, which is succ^n of a variable: E-APPABS substitutes in c
@@ -150,7 +150,16 @@ static void admit(void)
     succeeded = mengyubad_admit(sheet, length, work, MENGYUBAD_MOST_TERMS, values) == MENGYUBAD_OK;
 }
 
-/* Finds one judgment twice; line 0 states it. */
+/* Finds the judgment of line 0. */
+static void find(void)
+{
+    static const uint32_t wanted[5];
+    size_t values[3];
+    const size_t number = mengyubad_find(sheet, length, work, MENGYUBAD_MOST_TERMS, wanted, values);
+    succeeded = number == MENGYUBAD_OK && values[0] == 0;
+}
+
+/* Finds it twice. */
 static void find_all(void)
 {
     static const uint32_t wanted[10];
@@ -241,8 +250,9 @@ int main(int argc, char **argv)
     (void)argv;
     const int told = argc > 1;
     const int admitted = is_covered("admission", admission("admission", admit, told));
-    const int found = is_covered("a batch", admission("batch", find_all, told));
+    const int found = is_covered("a search", admission("search", find, told));
+    const int answered = is_covered("a batch", admission("batch", find_all, told));
     const int withdrawn = is_covered("withdrawal", admission("withdrawal", withdraw, told));
     const int marked = is_covered("marking", marking(told));
-    return admitted && found && withdrawn && marked ? 0 : 1;
+    return admitted && found && answered && withdrawn && marked ? 0 : 1;
 }

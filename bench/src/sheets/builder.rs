@@ -105,6 +105,11 @@ impl Builder {
         n
     }
 
+    /// Forgets what the lines state, so that it may be entered again.
+    pub fn forget_lines(&mut self) {
+        self.line_numbers.clear();
+    }
+
     /// Enters a line once more.
     pub fn repeat(&mut self, line: u16) {
         self.lines.push(self.lines[usize::from(line)]);

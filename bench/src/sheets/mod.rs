@@ -7,6 +7,7 @@ mod normal;
 mod normal_steps;
 mod normalisation;
 mod plausible;
+mod restated;
 mod shared;
 mod steps;
 mod terms;
@@ -17,6 +18,7 @@ pub use heads::equal_heads;
 pub use normal::{doubled_pairs, nested_arguments, nested_motives, shared_function};
 pub use normalisation::{normalisation, normalisation_steps};
 pub use plausible::{plausible, typical};
+pub use restated::restated;
 pub use trees::{applications, beta_steps, induction_steps, large_nodes};
 
 use builder::Builder;

@@ -1,12 +1,13 @@
 //! Finding a batch of judgments: the lines are indexed once.
 
+use super::finding::{measure, narrowed};
 use super::index::mixed;
 use super::rows::packed;
 use super::{accepted, refused, Checker};
 use mengyubad::{Answer, ABSENT};
 
 impl Checker {
-    /// Puts the lowest line of each judgment, five words each, in `answers`: how many judgments there are.
+    /// Puts the line that `find` gives for each judgment, five words each, in `answers`: how many judgments there are.
     pub fn find_all(
         &mut self,
         sheet: &[u8],
@@ -32,22 +33,31 @@ impl Checker {
         accepted([count, 0, 0])
     }
 
-    /// Enters the lines from the lowest on, so that the first with a judgment stays.
+    /// Enters the lines in their order. Where a judgment is stated again, the line that is entered stays only if it is
+    /// less high. Heights are computed only if there is such a line.
     fn index_lines(&mut self, count: usize) {
-        let lines = &self.lines[..count];
+        let (lines, heights) = (&self.lines[..count], &mut self.heights);
+        let mut measured = false;
         self.stated.start(count);
-        for (n, line) in (0..).zip(lines) {
+        for (n, line) in lines.iter().enumerate() {
             let judgment = line.judgment();
             let same = |m: u16| lines[usize::from(m)].judgment() == judgment;
-            self.stated.insert(hash(judgment), n, same);
+            let (at, entered) = self.stated.place(hash(judgment), same);
+            if let Some(m) = entered {
+                if !measured {
+                    measure(lines, heights);
+                    measured = true;
+                }
+                if heights[usize::from(m)] < heights[n] {
+                    continue;
+                }
+            }
+            self.stated.put(at, n as u16);
         }
     }
 
     fn indexed(&self, wanted: &[u32]) -> Option<u16> {
-        let mut judgment = [0; 5];
-        for (number, &word) in judgment.iter_mut().zip(wanted) {
-            *number = u16::try_from(word).ok()?;
-        }
+        let judgment = narrowed(wanted)?;
         let same = |n: u16| self.lines[usize::from(n)].judgment() == judgment;
         self.stated.find(hash(judgment), same)
     }

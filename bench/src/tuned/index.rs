@@ -33,35 +33,40 @@ impl<const N: usize> Index<N> {
     /// Enters row `n`, unless an entered row is the same.
     #[inline(always)]
     pub fn insert(&mut self, hash: u64, n: u16, same: impl Fn(u16) -> bool) -> bool {
-        let mut at = hash as usize & self.mask;
-        loop {
-            let slot = &mut self.slots[at & (N - 1)];
-            if *slot >> 12 != self.generation {
-                *slot = self.generation << 12 | u32::from(n);
-                return true;
-            }
-            if same((*slot & NUMBER) as u16) {
-                return false;
-            }
-            at = (at + 1) & self.mask;
+        let (at, found) = self.place(hash, same);
+        if found.is_none() {
+            self.put(at, n);
         }
+        found.is_none()
     }
 
     /// The entered row that is the same, if there is one.
     #[inline(always)]
     pub fn find(&self, hash: u64, same: impl Fn(u16) -> bool) -> Option<u16> {
+        self.place(hash, same).1
+    }
+
+    /// The slot of the entered row that is the same, and this row; or the free slot that it would take.
+    #[inline(always)]
+    pub fn place(&self, hash: u64, same: impl Fn(u16) -> bool) -> (usize, Option<u16>) {
         let mut at = hash as usize & self.mask;
         loop {
             let slot = self.slots[at & (N - 1)];
             let n = (slot & NUMBER) as u16;
             if slot >> 12 != self.generation {
-                return None;
+                return (at, None);
             }
             if same(n) {
-                return Some(n);
+                return (at, Some(n));
             }
             at = (at + 1) & self.mask;
         }
+    }
+
+    /// Enters row `n` in a slot that `place` gave, over the row that is there.
+    #[inline(always)]
+    pub fn put(&mut self, at: usize, n: u16) {
+        self.slots[at & (N - 1)] = self.generation << 12 | u32::from(n);
     }
 }
 

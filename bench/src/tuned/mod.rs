@@ -5,6 +5,7 @@ mod batch;
 mod contexts;
 pub mod dates;
 mod equality;
+mod finding;
 mod images;
 mod index;
 mod instances;
@@ -31,6 +32,8 @@ use normality::Forms;
 pub struct Checker {
     tables: Tables,
     lines: Box<[Line; lines::ROOM]>,
+    /// The heights of the lines, where a search asks for them.
+    heights: Box<[u16; lines::ROOM]>,
     /// The lines by their judgments, for a batch.
     stated: Index<{ 2 * lines::ROOM }>,
     forms: Forms,
@@ -52,6 +55,7 @@ impl Checker {
         Checker {
             tables: Tables::new(),
             lines: Box::new([Line::default(); lines::ROOM]),
+            heights: Box::new([0; lines::ROOM]),
             stated: Index::new(),
             forms: Forms::new(),
         }
@@ -61,19 +65,6 @@ impl Checker {
         match self.check(sheet, work) {
             Err(answer) => answer,
             Ok(n) => accepted([n.terms, n.contexts, n.lines]),
-        }
-    }
-
-    /// The lowest line with form, context, s1, s2, s3.
-    pub fn find(&mut self, sheet: &[u8], work: &mut [u32], wanted: [u32; 5]) -> Answer {
-        let counts = match self.check(sheet, work) {
-            Err(answer) => return answer,
-            Ok(counts) => counts,
-        };
-        let stated = |line: &Line| line.judgment().map(u32::from) == wanted;
-        match self.lines[..counts.lines].iter().position(stated) {
-            Some(n) => accepted([n, 0, 0]),
-            None => refused(14, 0),
         }
     }
 

@@ -93,7 +93,8 @@ pub fn admit(sheet: &[u8], work: &mut [u32]) -> Answer {
     Answer { number, values }
 }
 
-/// Finds the lowest line with form, 0 to 6, context, s1, s2, s3.
+/// Finds the line with form, 0 to 6, context, s1, s2, s3: of several the one of least height, and of those the one with
+/// the highest number.
 pub fn find(sheet: &[u8], work: &mut [u32], wanted: [u32; 5]) -> Answer {
     let mut values = [0; 3];
     // SAFETY: as in `admit`; `wanted` lives until the call returns.

@@ -28,9 +28,10 @@ use Rattle.rules.proofs.EditionLaws.{last-most, row-known}
 use Rattle.sheets.specs.declared.lines.Line.{Line}
 use Rattle.sheets.specs.Lines.{lineWord, lineOf, judgmentOf, premisesOf, citedBy}
 use Rattle.sheets.specs.GoodLines.{LineOk}
+use Rattle.sheets.proofs.BelowLaws.{below-at}
 use Rattle.derivations.specs.Lists.{_∈_}
 use Rattle.derivations.specs.Fits.{subjects}
-use Rattle.derivations.proofs.ListLaws.{in-selected, below-at}
+use Rattle.derivations.proofs.ListLaws.{in-selected}
 use Rattle.derivations.proofs.Numbering.{number, number-below}
 use Rattle.derivations.proofs.ContextTableOf.{contextNumber, number-empty, Listed, context-number-most}
 

@@ -1,14 +1,13 @@
--- Laws of lists: the values of a function in order, joined lists, members by place, marked members, and numbers below a
--- bound.
+-- Laws of lists: the values of a function in order, joined lists, members by place and marked members.
 -- Assumes nothing.
-use mathlib.Core.Path.{_≡_, refl, sym, ap₂, subst}
+use mathlib.Core.Path.{_≡_, refl, sym, subst}
 use mathlib.Core.Logic.{⊎-elim}
 use mathlib.Core.Bool.{Bool, true, false}
-use mathlib.Core.List.{List, [], _∷_, map, flatMap, List·Memᴰ·head as here, List·Memᴰ·tail as there, List·Memᴰ·not-nil, List·Memᴰ·cases-cons, List·Memᴰ·append-cases, Memᴰ·append-left, Memᴰ·append-right}
+use mathlib.Core.List.{List, [], _∷_, flatMap, List·Memᴰ·head as here, List·Memᴰ·tail as there, List·Memᴰ·not-nil, List·Memᴰ·cases-cons, List·Memᴰ·append-cases, Memᴰ·append-left, Memᴰ·append-right}
 use Prim.Native.Nat.{ℕ, zero, suc, _<_}
 use native.Mathlib.Omega.{arith}
 use lib.ListN.{length, getD}
-use Rattle.terms.specs.Lists.{AllBelow, listed, selected}
+use Rattle.terms.specs.Lists.{listed, selected}
 use Rattle.terms.proofs.Tests.{never}
 use Rattle.derivations.specs.Lists.{_∈_}
 
@@ -77,17 +76,3 @@ module _ {A B : Type 0} (f : A → List B) where
     where
       later : (y : A) × (y ∈ l) × (x ∈ f y) → (y : A) × (y ∈ (z ∷ l)) × (x ∈ f y)
       later a = (a .0, there (a .1), a .2)
-
--- functions that agree below the bound
-pub map-below : {A : Type 0} (f g : ℕ → A) (n : ℕ) (l : List ℕ) → AllBelow n l → ((k : ℕ) → k < n → f k ≡ g k) → map f l ≡ map g l
-map-below f g n [] b h = refl
-map-below f g n (k ∷ l) b h = ap₂ _∷_ (h k (b .0)) (map-below f g n l (b .1) h)
-
-pub all-below : (n : ℕ) (l : List ℕ) → ((i : ℕ) → i < length l → getD l i 0 < n) → AllBelow n l
-all-below n [] h = tt
-all-below n (k ∷ l) h = (h 0 (omega arith), all-below n l (λ i b. h (suc i) (omega arith)))
-
-pub below-at : (n : ℕ) (l : List ℕ) → AllBelow n l → (i : ℕ) → i < length l → getD l i 0 < n
-below-at n [] b i h = absurd (omega arith)
-below-at n (k ∷ l) b zero h = b .0
-below-at n (k ∷ l) b (suc i) h = below-at n l (b .1) i (omega arith)

@@ -1,25 +1,25 @@
 -- Demand 3 (a): what an accepted sheet states is a derivation, and so is each beginning of it.
 -- Assumes nothing.
-use mathlib.Core.Path.{_≡_, sym, _∙_, ap, subst, subst₂}
+use mathlib.Core.Path.{_≡_, sym, _∙_, ap, subst₂}
 use mathlib.Core.List.{List, []}
 use Prim.Native.Nat.{ℕ, suc, _≤_, _<_}
 use native.Mathlib.Omega.{arith}
-use lib.ListN.{length, take, length-take}
+use lib.ListN.{length, take}
 use lib.Seq.{getD-take, take-suc, length-take-le}
 use Rattle.terms.specs.Lists.{AllBelow}
 use Rattle.rules.specs.Judgment.{Judgment, wf}
 use Rattle.rules.specs.Instance.{Instance}
-use Rattle.rules.specs.RuleTable.{premiseCount}
 use Rattle.rules.specs.Editions.{rowIn}
 use Rattle.sheets.specs.Layout.{linesIn, editionOf}
-use Rattle.sheets.specs.Lines.{lineWord, lineOf, premisesOf, citedBy, lineAt, statedAt, LineFollows}
+use Rattle.sheets.specs.Lines.{lineWord, lineOf, citedBy, lineAt, statedAt, LineFollows}
 use Rattle.sheets.specs.Good.{Good}
 use Rattle.sheets.proofs.ListedLaws.{listed-length, listed-at}
+use Rattle.sheets.proofs.BelowLaws.{map-below}
+use Rattle.sheets.proofs.CitingLaws.{cited-below, good-cites}
 use Rattle.sheets.proofs.AcceptedLaws.{accepted-good, stated-is}
 use Rattle.derivations.specs.Derivation.{judgmentAt, Derivation}
 use Rattle.sheets.specs.Accepted.{statedBy}
 use Rattle.derivations.specs.Demand3.{Sound}
-use Rattle.derivations.proofs.ListLaws.{map-below, all-below}
 
 -- what a good sheet states
 module _ {b : List ℕ} {T C L : ℕ} (g : Good b T C L) where
@@ -30,13 +30,7 @@ module _ {b : List ℕ} {T C L : ℕ} (g : Good b T C L) where
   stated-at i h = ap (λ js. judgmentAt js i) (stated-is g) ∙ listed-at (statedAt b T C) L i (wf []) h
 
   cited-earlier : (i : ℕ) → i < L → AllBelow i (citedBy (lineAt b T C i))
-  unfolding citedBy premisesOf
-  cited-earlier i h =
-      let l = lineAt b T C i in
-      all-below i (citedBy l)
-      (λ j k.
-      let m : (j < premiseCount (l .rule)) × (j < 4) = omega (arith, length-take (premiseCount (l .rule)) (premisesOf l)) in
-      subst (λ p. p < i) (sym (getD-take (premiseCount (l .rule)) (premisesOf l) j 0 (m .0))) (g .lines i h .ok .earlier j (m .1) (m .0)))
+  cited-earlier i h = cited-below (lineAt b T C i) i (good-cites g i h)
 
   -- the rule's number is the line's word, and its row in the sheet's edition is what the line is judged by
   pub stated-derivation : Derivation (editionOf b) (statedBy b)

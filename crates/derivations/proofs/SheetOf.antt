@@ -25,7 +25,8 @@ use Rattle.sheets.specs.GoodLines.{LineOk}
 use Rattle.derivations.specs.Lists.{_∈_}
 use Rattle.derivations.specs.Derivation.{judgmentAt, Derivation}
 use Rattle.sheets.specs.Accepted.{Bytes, statedBy}
-use Rattle.derivations.proofs.ListLaws.{in-place, map-below}
+use Rattle.sheets.proofs.BelowLaws.{map-below}
+use Rattle.derivations.proofs.ListLaws.{in-place}
 use Rattle.derivations.proofs.Numbering.{number, numbered, numbered-in}
 use Rattle.derivations.proofs.SheetDerives.{stated-length, stated-at}
 use Rattle.derivations.proofs.TermTableOf.{rowWord, row-small, spells-number, term-table}

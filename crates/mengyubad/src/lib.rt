@@ -162,7 +162,8 @@ pub extern "C" fn mengyubad_admit(sheet: &[u8], work: &mut [u32], values: &mut [
     give(admission_reply(admit(sheet, work)), values)
 }
 
-// The lowest line of a sheet with this form, context and three subjects.
+// The line of a sheet with this form, context and three subjects: of several the one of least height, and of those the
+// one with the highest number.
 #[no_mangle]
 pub extern "C" fn mengyubad_find(
     sheet: &[u8],

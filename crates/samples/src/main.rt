@@ -366,5 +366,5 @@ fn main() {
         libc::close(results);
     }
     run_list(b"batch.list", Task::Batch);
-    run_list(b"batch_lowest.list", Task::Batch);
+    run_list(b"batch_heights.list", Task::Batch);
 }

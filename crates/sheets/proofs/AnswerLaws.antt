@@ -2,7 +2,7 @@
 -- Assumes nothing.
 use mathlib.Core.Path.{_≡_, sym, _∙_, ap}
 use mathlib.Core.List.{List}
-use Prim.Native.Nat.{ℕ, _+_, _-_, _*_, _≤_}
+use Prim.Native.Nat.{ℕ, _-_, _*_, _≤_}
 use native.Mathlib.Omega.{arith}
 use lib.ListN.{length, take, drop, length-drop}
 use Rattle.terms.specs.Table.{TermTable}
@@ -21,13 +21,15 @@ use Rattle.sheets.specs.declared.admission.Admission.{Admission}
 use Rattle.sheets.specs.declared.admission.Admission.the-variants.{Accepted, Refused}
 use Rattle.sheets.specs.declared.finding.Wanted.{Wanted}
 use Rattle.sheets.specs.declared.finding.Found.{Found}
-use Rattle.sheets.specs.Layout.{editionOf, contextsIn, linesIn, layoutOf}
+use Rattle.sheets.specs.Layout.{editionOf, contextsIn, layoutOf}
 use Rattle.sheets.specs.Lines.{checkLines}
 use Rattle.sheets.specs.Admission.{afterLines, afterContexts, afterTerms, afterLayout, admitOf, workFrom, workAfter}
 use Rattle.sheets.specs.Finding.{searchLines, findAfter, findOf}
-use Rattle.sheets.specs.Good.{WellFormedTables}
+use Rattle.sheets.specs.Good.{WellFormedTables, Good}
 use Rattle.sheets.specs.GoodLayout.{LaidOut}
+use Rattle.sheets.specs.Citing.{CitingLines}
 use Rattle.sheets.proofs.BufferLaws.{part-to-end}
+use Rattle.sheets.proofs.CitingLaws.{linesPart, part-lines, citing-lines}
 use Rattle.sheets.proofs.LayoutLaws.{counted-is}
 use Rattle.sheets.proofs.AdmissionLaws.{whole-terms, whole-contexts, accepted-is}
 
@@ -66,20 +68,23 @@ module _ (bytes : List ℕ) (T C L : ℕ) where
   unfolding admitOf afterLayout workAfter workFrom
   layout-counted before a e h = (ap (afterLayout bytes) (sym h ∙ e), ap (workFrom bytes before) (sym h ∙ e))
 
-  -- `find`, where a is the answer of admission
+  -- where a is the answer of admission
   module _ (work : ℕ) (a : Admission) (e : a ≡ admitOf bytes work) (h : a ≡ Accepted T C L) where
-    pub accepted-laid : LaidOut bytes T C L
-    accepted-laid = accepted-is bytes work T C L .0 (sym e ∙ h) .0 .tables .laid
+    pub admitted-good : Good bytes T C L
+    admitted-good = accepted-is bytes work T C L .0 (sym e ∙ h) .0
 
-    pub lines-whole : 20 * L ≤ length (take (length bytes - (10 * T + 4 * C)) (drop (10 * T + 4 * C) bytes))
-    lines-whole = omega (arith, accepted-laid .long, length-drop (10 * T + 4 * C) bytes, ap length (part-to-end bytes (10 * T + 4 * C)))
+    pub accepted-laid : LaidOut bytes T C L
+    accepted-laid = admitted-good .tables .laid
+
+    pub lines-citing : {edition : ℕ} → edition ≡ editionOf bytes
+        → (20 * L ≤ length (linesPart bytes T C)) × (L ≤ 1024) × CitingLines edition (linesPart bytes T C) L
+    lines-citing = citing-lines bytes T C L admitted-good
 
     pub find-searched : (w : Wanted) {edition : ℕ} → edition ≡ editionOf bytes → (r : Found)
-        → r ≡ searchLines edition (take (length bytes - (10 * T + 4 * C)) (drop (10 * T + 4 * C) bytes)) L w
-        → r ≡ findOf bytes work w
-    unfolding findOf findAfter linesIn
+        → r ≡ searchLines edition (linesPart bytes T C) L w → r ≡ findOf bytes work w
+    unfolding findOf findAfter
     find-searched w own r f =
-        f ∙ (λ i. searchLines (own i) (part-to-end bytes (10 * T + 4 * C) i) L w) ∙ ap (findAfter bytes w) (sym h ∙ e)
+        f ∙ (λ i. searchLines (own i) (part-lines bytes T C i) L w) ∙ ap (findAfter bytes w) (sym h ∙ e)
 
 pub layout-wrong : (bytes before : List ℕ) (number : ℕ) (a : Layout) → a ≡ layoutOf bytes (length before) → a ≡ Wrong number
     → (Refused number 0 ≡ admitOf bytes (length before)) × (before ≡ workAfter bytes before)

@@ -22,7 +22,9 @@ use Rattle.sheets.specs.LineSets.{Rises, isListed, Listed, lastListed, c
 use Rattle.sheets.specs.Numbering.{Numbering}
 use Rattle.sheets.specs.Withdrawal.{Uses}
 use Rattle.sheets.specs.WithdrawalSet.{keptUse, AllLines, KeptUses}
-use Rattle.sheets.specs.ListedUses.{listedPremise, greater, highestListed, higherUse, CitesEarlier, CitingLines}
+use Rattle.sheets.specs.ListedUses.{listedPremise, greater, highestListed, higherUse}
+use Rattle.sheets.specs.Citing.{CitesEarlier, CitingLines}
+use Rattle.sheets.proofs.CitingLaws.{premise-within, premises-within}
 use Rattle.sheets.proofs.LineSetLaws.{listed-says, first-least, last-highest, count-here, count-there, new-less}
 use Rattle.sheets.proofs.LineSetLaws.{new-within, old-stays, old-new, new-old, old-within, old-below}
 use Rattle.sheets.proofs.UseLaws.{highest-use, unused-use}
@@ -106,15 +108,6 @@ module _ (P : ℕ → ℕ → Type 0) (a b c h k : ℕ) (low : a ≤ b) (high : 
             holds = λ n e. let p = first .holds n e in (p .0, p .1, omega (arith, p .2), p .3);
           })
 
--- a line's premises are lines before it, or 0
-premise-within : (l : Line) (k count : ℕ) → k < count → CitesEarlier l k
-    → (j : ℕ) → j < 4 → getD (premisesOf l) j 0 < count
-premise-within l k count within cites j h = at (decLt j (premiseCount (l .rule)))
-  where
-    at : Dec (j < premiseCount (l .rule)) → getD (premisesOf l) j 0 < count
-    at (yes u) = omega (arith, cites .earlier j h u)
-    at (no u) = omega (arith, cites .unused j h (omega arith))
-
 -- an array holds how many listed numbers are below each
 module _ (set : List ℕ) (rises : Rises set) (count : ℕ) (below : List ℕ)
     (counts : (k : ℕ) → k ≤ count → getD below k 0 ≡ countBelow set k) where
@@ -133,7 +126,7 @@ module _ (set : List ℕ) (rises : Rises set) (count : ℕ) (below : List ℕ)
     premise-above j h = on _ (says-lt j (premiseCount (l .rule)) & below-says (getD (premisesOf l) j 0) earlier)
       where
         earlier : getD (premisesOf l) j 0 < count
-        earlier = premise-within l k count within cites j h
+        earlier = premise-within l k cites count (omega arith) (omega arith) j h
 
         -- the only place among these
         here : {n : ℕ} (u : Among ListedAt j (suc j) n) → ListedAt j n
@@ -326,11 +319,9 @@ module _ {edition : ℕ} {lines : List ℕ} {count : ℕ} {set below kept : List
     rule-known = line-cites .rule
 
     pub premises-few : (line .p0 < 1024) × (line .p1 < 1024) × (line .p2 < 1024) × (line .p3 < 1024)
-    unfolding premisesOf
-    premises-few = (few 0 (omega arith), few 1 (omega arith), few 2 (omega arith), few 3 (omega arith))
-      where
-        few : (j : ℕ) → j < 4 → getD (premisesOf line) j 0 < 1024
-        few j h = omega (arith, premise-within line (getD kept m 0) count place-within line-cites j h, asking .sheet .1)
+    premises-few =
+        let within : getD kept m 0 ≤ 1024 = omega (arith, place-within, asking .sheet .1) in
+        premises-within line (getD kept m 0) line-cites 1024 (omega arith) within
 
     pub found-next : (found next : Use) (above : ℕ) → above ≡ highestListed below line
         → next ≡ higherUse found (record { above = above; place = getD kept m 0 })

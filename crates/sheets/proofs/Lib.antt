@@ -3,7 +3,11 @@ pub mod BufferLaws
 pub mod LayoutLaws
 pub mod LineLaws
 pub mod LineCheckLaws
+pub mod BelowLaws
+pub mod CitingLaws
+pub mod EasiestLaws
 pub mod AdmissionLaws
+pub mod HeightLaws
 pub mod FindingLaws
 pub mod AnswerLaws
 pub mod LineAnswers
@@ -15,6 +19,7 @@ pub mod SheetWithout
 pub mod WithdrawalLaws
 pub mod ListedLaws
 pub mod FillingLaws
+pub mod HeightArrayLaws
 pub mod AnsweredLaws
 pub mod BatchLaws
 pub mod OpeningLaws

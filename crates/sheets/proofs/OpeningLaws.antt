@@ -20,21 +20,35 @@ use Rattle.sheets.specs.declared.batch.Batch.the-variants.{Answered, Ref
 use Rattle.sheets.specs.Layout.{editionOf, linesIn}
 use Rattle.sheets.specs.Admission.{admitOf}
 use Rattle.sheets.specs.Good.{Good}
+use Rattle.sheets.specs.SearchSteps.{heightsOf}
 use Rattle.sheets.specs.Finding.{searchLines, findOf}
 use Rattle.sheets.specs.Batch.{wantedOf, wantedAt, wantedIn, answerFor, searchAnswers, batchOf, answersFrom}
 use Rattle.sheets.specs.Batch.{answersAfter, BatchMeans, faulty, short, all}
 use Rattle.sheets.specs.Opening.{notOpened, openedAfter, openedOf, answered, Searchable, Answerable, answerIn}
 use Rattle.sheets.proofs.BufferLaws.{part-to-end}
+use Rattle.sheets.proofs.CitingLaws.{linesPart, part-lines}
 use Rattle.sheets.proofs.SheetWithout.{listed-same}
 use Rattle.sheets.proofs.AdmissionLaws.{accepted-is, refused-is, fault-number}
 use Rattle.sheets.proofs.FindingLaws.{search-found, searched}
 use Rattle.sheets.proofs.ListedLaws.{map-listed}
 use Rattle.sheets.proofs.BatchLaws.{batch-is, wanted-count, wanted-at}
 
--- a sheet of this edition with these counts, opened for so many searches
-abbrev openedFor : ℕ → ℕ → ℕ → ℕ → ℕ → Opened
-openedFor edition T C L count =
-    record { number = 0; place = 0; edition = edition; start = 10 * T + 4 * C; lines = L; todo = count }
+-- a sheet of this edition with these counts and heights of its lines, opened for so many searches
+abbrev openedFor : ℕ → ℕ → ℕ → ℕ → ℕ → List ℕ → Opened
+openedFor edition T C L count heights =
+    record {
+      number = 0;
+      place = 0;
+      edition = edition;
+      start = 10 * T + 4 * C;
+      lines = L;
+      todo = count;
+      heights = heights;
+    }
+
+-- the heights of the lines of a sheet with these counts
+abbrev heightsIn : List ℕ → ℕ → ℕ → ℕ → List ℕ
+heightsIn bytes T C L = heightsOf (editionOf bytes) (linesIn bytes T C) L
 
 module _ (bytes : List ℕ) (work count room : ℕ) where
   pub opened-refused : (number place : ℕ) → admitOf bytes work ≡ notAdmitted number place
@@ -47,19 +61,27 @@ module _ (bytes : List ℕ) (work count room : ℕ) where
     unfolding openedOf openedAfter
     opened-19 h = ap (openedAfter bytes count room) accepted ∙ rw (says-lt room count .1 h, openedAfter)
 
-    pub opened-all : {edition : ℕ} → edition ≡ editionOf bytes → count ≤ room
-        → openedFor edition T C L count ≡ openedOf bytes work count room
+    pub opened-all : {edition : ℕ} {heights : List ℕ} → edition ≡ editionOf bytes
+        → heights ≡ heightsOf edition (linesPart bytes T C) L → count ≤ room
+        → openedFor edition T C L count heights ≡ openedOf bytes work count room
     unfolding openedOf openedAfter
-    opened-all own h =
-        ap (λ e. openedFor e T C L count) own
+    opened-all {heights = heights} own filled h =
+        (λ i. openedFor (own i) T C L count (same i))
         ∙ sym (ap (openedAfter bytes count room) accepted
         ∙ rw (refutes (ltb room count) (says-lt room count) (λ k. omega arith), openedAfter))
+      where
+        same : heights ≡ heightsIn bytes T C L
+        same = filled ∙ (λ i. heightsOf (own i) (part-lines bytes T C i) L)
+
+    opened-found : count ≤ room
+        → openedFor (editionOf bytes) T C L count (heightsIn bytes T C L) ≡ openedOf bytes work count room
+    opened-found = opened-all refl (ap (λ l. heightsOf (editionOf bytes) l L) (sym (part-lines bytes T C)))
 
   -- what is handed on with each answer: nothing is to be found after a refusal
   data Opens : Opened → Batch → Type 0 where
     shut : {number place : ℕ} → 1 ≤ number → Opens (notOpened number place) (Refused number place)
     opened : {T C L : ℕ} → Good bytes T C L → T ≤ work → count ≤ room
-        → Opens (openedFor (editionOf bytes) T C L count) (Answered count)
+        → Opens (openedFor (editionOf bytes) T C L count (heightsIn bytes T C L)) (Answered count)
 
   opens-for : {a : Batch} → BatchMeans bytes work count room a → Opens (openedOf bytes work count room) a
   opens-for (faulty {number} {place} f) =
@@ -69,18 +91,22 @@ module _ (bytes : List ℕ) (work count room : ℕ) where
       subst (λ o. Opens o (Refused 19 0)) (sym (opened-19 T C L (accepted-is bytes work T C L .1 (g, fits)) h))
       (shut (omega arith))
   opens-for (all {T} {C} {L} g fits h) =
-      subst (λ o. Opens o (Answered count)) (opened-all T C L (accepted-is bytes work T C L .1 (g, fits)) refl h)
+      subst (λ o. Opens o (Answered count)) (opened-found T C L (accepted-is bytes work T C L .1 (g, fits)) h)
       (opened g fits h)
 
   opens : Opens (openedOf bytes work count room) (batchOf bytes work count room)
   opens = opens-for (batch-is bytes work count room (batchOf bytes work count room) .0 refl)
 
   in-sheet : {o : Opened} {a : Batch} → Opens o a → Searchable bytes o
-  unfolding notOpened
-  in-sheet (shut h) = (omega arith, omega arith, omega arith)
+  unfolding notOpened heightsOf listed linesIn
+  in-sheet (shut h) = (omega arith, omega arith, omega arith, refl)
   in-sheet (opened {T} {C} g fits h) =
-      let laid = g .tables .laid in
-      (omega (arith, laid .long), omega (arith, laid .long, length-drop (10 * T + 4 * C) bytes), laid .fewLines)
+      let laid = g .tables .laid in (
+        omega (arith, laid .long),
+        omega (arith, laid .long, length-drop (10 * T + 4 * C) bytes),
+        laid .fewLines,
+        refl,
+      )
 
   few-todo : {o : Opened} {a : Batch} → Opens o a → (o .todo ≤ count) × (o .todo ≤ room)
   unfolding notOpened
@@ -104,13 +130,14 @@ module _ (bytes : List ℕ) (work count room : ℕ) where
 
   -- a search in an opened sheet is a single search
   module _ (w : Wanted) (T C L : ℕ) (accepted : admitOf bytes work ≡ Accepted T C L) where
-    answer-open : answerIn bytes (openedFor (editionOf bytes) T C L count) w ≡ answerFor (findOf bytes work w)
+    answer-open : answerIn bytes (openedFor (editionOf bytes) T C L count (heightsIn bytes T C L)) w
+        ≡ answerFor (findOf bytes work w)
     unfolding answerIn linesIn
     answer-open = ap answerFor (sym (searched bytes work w T C L accepted))
 
     pub answer-in-is : count ≤ room
         → answerIn bytes (openedOf bytes work count room) w ≡ answerFor (findOf bytes work w)
-    answer-in-is h = ap (λ o. answerIn bytes o w) (sym (opened-all T C L accepted refl h)) ∙ answer-open
+    answer-in-is h = ap (λ o. answerIn bytes o w) (sym (opened-found T C L accepted h)) ∙ answer-open
 
 -- the answers that are put, however they are computed
 module _ (bytes : List ℕ) (work : ℕ) (ws : List Wanted) (before : List ℕ) (f : ℕ → ℕ) where

@@ -4,27 +4,24 @@ use mathlib.Core.Path.{_≡_, refl, sym, _∙_, ap, subst, subst₂}
 use mathlib.Core.List.{List}
 use Prim.Native.Nat.{ℕ, _+_, _-_, _*_, _≤_, _<_}
 use native.Mathlib.Omega.{arith}
-use lib.ListN.{length, getD, take, drop, length-drop}
+use lib.ListN.{length, getD}
 use Rattle.terms.specs.Buffers.{over}
 use Rattle.sheets.specs.declared.layout.Trailer.{Trailer}
 use Rattle.sheets.specs.declared.admission.Admission.{Admission}
 use Rattle.sheets.specs.declared.admission.Admission.the-variants.{Accepted, Refused as notAdmitted}
 use Rattle.sheets.specs.declared.withdrawal.Withdrawal.{Withdrawal}
 use Rattle.sheets.specs.declared.withdrawal.Withdrawal.the-variants.{Written, Refused}
-use Rattle.sheets.specs.Layout.{editionOf, linesIn}
-use Rattle.sheets.specs.Lines.{lineAt}
+use Rattle.sheets.specs.Layout.{editionOf}
 use Rattle.sheets.specs.Admission.{admitOf}
 use Rattle.sheets.specs.Good.{Good}
 use Rattle.sheets.specs.LineSets.{Rises}
 use Rattle.sheets.specs.Numbering.{Numbering}
-use Rattle.sheets.specs.ListedUses.{CitingLines}
 use Rattle.sheets.specs.GoodLayout.{trailerFor}
 use Rattle.sheets.specs.KeptWords.{startOf, endOf, keptWord, SmallTrailer, KeptLines}
 use Rattle.sheets.specs.Withdrawal.{afterUse, outFrom}
 use Rattle.sheets.specs.WithdrawalSet.{keptUse, keptLength, keptAnswer, afterSet, withdrawSetAfter, withdrawSetOf}
 use Rattle.sheets.specs.WithdrawalSet.{withoutLines, setOutAfter, AllLines, KeepsTheUnlisted}
-use Rattle.sheets.proofs.AdmissionLaws.{accepted-is}
-use Rattle.sheets.proofs.BufferLaws.{part-to-end}
+use Rattle.sheets.proofs.CitingLaws.{linesPart, part-lines}
 use Rattle.sheets.proofs.WithdrawalLaws.{use-refused, room-refused, room-enough}
 use Rattle.sheets.proofs.WrittenLaws.{written}
 use Rattle.sheets.proofs.KeptWordLaws.{kept-lines, kept-written}
@@ -32,31 +29,12 @@ use Rattle.sheets.proofs.SetLaws.{set-keeps}
 
 -- `withdraw_lines`
 module _ (b : List ℕ) (T C L : ℕ) (g : Good b T C L) where
-  -- the part of the sheet that begins with the lines
-  abbrev part : List ℕ
-  part = take (length b - (10 * T + 4 * C)) (drop (10 * T + 4 * C) b)
-
-  part-lines : part ≡ linesIn b T C
-  unfolding linesIn
-  part-lines = part-to-end b (10 * T + 4 * C)
-
-  pub citing-lines : {edition : ℕ} → edition ≡ editionOf b
-      → (20 * L ≤ length part) × (L ≤ 1024) × CitingLines edition part L
-  unfolding lineAt
-  citing-lines own = (
-    omega (arith, g .tables .laid .long, length-drop (10 * T + 4 * C) b, ap length (part-to-end b (10 * T + 4 * C))),
-    g .tables .laid .fewLines,
-    subst₂ (λ e l. CitingLines e l L) (sym own) (sym part-lines)
-        (λ k h.
-        let ok = g .lines k h .ok in record { rule = ok .rule; earlier = ok .earlier; unused = ok .unusedPremise }),
-  )
-
   -- p is what the search answers
   module _ (set : List ℕ) (room : ℕ) {edition : ℕ} (own : edition ≡ editionOf b) (p : ℕ)
-      (e : p ≡ keptUse edition part L set) where
+      (e : p ≡ keptUse edition (linesPart b T C) L set) where
     searched : keptAnswer b T C L set room ≡ afterUse L (keptLength T C L set) room p
     unfolding keptAnswer
-    searched = ap (afterUse L (keptLength T C L set) room) (sym (e ∙ (λ i. keptUse (own i) (part-lines i) L set)))
+    searched = ap (afterUse L (keptLength T C L set) room) (sym (e ∙ (λ i. keptUse (own i) (part-lines b T C i) L set)))
 
     pub answer-12 : p < L → Refused 12 p ≡ keptAnswer b T C L set room
     answer-12 h = sym (searched ∙ use-refused L (keptLength T C L set) room p h)
@@ -91,10 +69,6 @@ module _ (b : List ℕ) (T C L : ℕ) (g : Good b T C L) where
         ∙ ap (λ x. over x before) (sym (kept-written g rising all numbers known))
 
 -- `withdraw_set`, where a is the answer of admission
-pub admitted-good : (b : List ℕ) (work : ℕ) (a : Admission) → a ≡ admitOf b work
-    → (T C L : ℕ) → a ≡ Accepted T C L → Good b T C L
-admitted-good b work a e T C L h = accepted-is b work T C L .0 (sym e ∙ h) .0
-
 module _ (b set : List ℕ) (work : ℕ) (before : List ℕ) where
   pub kept : (after : List ℕ) (r : Withdrawal) → r ≡ withdrawSetOf b set work (length before)
       → after ≡ setOutAfter b set work before → KeepsTheUnlisted b set after r

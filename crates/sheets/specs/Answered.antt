@@ -10,13 +10,13 @@ use Rattle.sheets.specs.declared.withdrawal.Withdrawal.{Withdrawal}
 use Rattle.sheets.specs.declared.withdrawal.Withdrawal.the-variants.{Refused}
 use Rattle.sheets.specs.Layout.{editionOf, linesIn}
 use Rattle.sheets.specs.Good.{Good, FirstFault}
-use Rattle.sheets.specs.Finding.{LineHas, LowestLine}
+use Rattle.sheets.specs.Finding.{LineHas, EasiestLine}
 use Rattle.sheets.specs.Withdrawal.{AdmittedWithdrawalMeans}
 use Rattle.sheets.specs.WithdrawalSet.{AdmittedSetMeans}
 
 pub data FoundMeans (bytes : List ℕ) (work : ℕ) (w : Wanted) : Found → Type 0 where
   faulty : {number place : ℕ} → FirstFault bytes work number place → FoundMeans bytes work w (notFound number place)
-  found : {T C L i : ℕ} → Good bytes T C L → T ≤ work → LowestLine (editionOf bytes) (linesIn bytes T C) L w i
+  found : {T C L i : ℕ} → Good bytes T C L → T ≤ work → EasiestLine (editionOf bytes) (linesIn bytes T C) L w i
       → FoundMeans bytes work w (Line i)
   absent : {T C L : ℕ} → Good bytes T C L → T ≤ work
       → ((n : ℕ) → n < L → LineHas (editionOf bytes) (linesIn bytes T C) w n → ⊥)

@@ -1,11 +1,11 @@
--- What a search for a judgment answers: document 01, "What the desk says"; and what it means, without computing, that a
--- line is the lowest with the numbers. The search itself stands apart from admission.
+-- What a search for a judgment answers: document 01, "What the desk says", and 02, A8; and what it means, without
+-- computing, that a line is the easiest with the numbers. The search itself stands apart from admission.
 use mathlib.Core.Path.{_≡_}
 use mathlib.Core.Bool.{Bool, _&&_}
+use mathlib.Core.Option.{Option, none, some}
 use mathlib.Core.List.{List}
-use Prim.Native.Nat.{ℕ, _<_}
+use Prim.Native.Nat.{ℕ}
 use lib.Dec.{eqb}
-use Rattle.terms.specs.Search.{firstAt}
 use Rattle.rules.specs.declared.judgments.LineJudgment.{LineJudgment}
 use Rattle.sheets.specs.declared.admission.Admission.{Admission}
 use Rattle.sheets.specs.declared.admission.Admission.the-variants.{Accepted, Refused as notAdmitted}
@@ -14,16 +14,23 @@ use Rattle.sheets.specs.declared.finding.Found.{Found}
 use Rattle.sheets.specs.declared.finding.Found.the-variants.{Line, Refused}
 use Rattle.sheets.specs.Layout.{editionOf, linesIn}
 use Rattle.sheets.specs.Lines.{lineOf, judgmentOf}
+use Rattle.sheets.specs.Heights.{lineHeight}
+use Rattle.sheets.specs.Easiest.{easiest, Easiest}
 use Rattle.sheets.specs.Admission.{admitOf}
 
 -- a judgment has the five numbers (form, context, s1, s2, s3)
 unfoldable pub hasNumbers : LineJudgment → Wanted → Bool
 hasNumbers j w = eqb (j .form) (w .form) && eqb (j .context) (w .context) && eqb (j .s1) (w .s1) && eqb (j .s2) (w .s2) && eqb (j .s3) (w .s3)
 
--- the lowest of the first count lines of a sheet of this edition that has the numbers; number 14 if none has
+-- the line that was found, or number 14
+unfoldable pub foundLine : Option ℕ → Found
+foundLine none = Refused 14 0
+foundLine (some n) = Line n
+
+-- the easiest of the first count lines of a sheet of this edition that has the numbers; number 14 if none has
 unfoldable pub searchLines : ℕ → List ℕ → ℕ → Wanted → Found
 searchLines edition lines count w =
-    firstAt (λ n. hasNumbers (judgmentOf (lineOf edition lines n)) w) Line (Refused 14 0) count 0
+    foundLine (easiest (λ n. hasNumbers (judgmentOf (lineOf edition lines n)) w) (lineHeight edition lines) count)
 
 -- "Withdrawal and finding admit the sheet first and return its refusal"
 unfoldable pub findAfter : List ℕ → Wanted → Admission → Found
@@ -46,8 +53,6 @@ pub record HasNumbers (j : LineJudgment) (w : Wanted) : Type 0 where
 abbrev pub LineHas : ℕ → List ℕ → Wanted → ℕ → Type 0
 LineHas edition lines w n = HasNumbers (judgmentOf (lineOf edition lines n)) w
 
--- line i is the lowest of the first count lines that has them
-pub record LowestLine (edition : ℕ) (lines : List ℕ) (count : ℕ) (w : Wanted) (i : ℕ) : Type 0 where
-  pub within : i < count
-  pub has : LineHas edition lines w i
-  pub lowest : (n : ℕ) → n < i → LineHas edition lines w n → ⊥
+-- line i is the easiest of the first count lines that has them
+abbrev pub EasiestLine : ℕ → List ℕ → ℕ → Wanted → ℕ → Type 0
+EasiestLine edition lines count w i = Easiest (LineHas edition lines w) (lineHeight edition lines) count i

@@ -1,5 +1,9 @@
 pub mod Layout
 pub mod Lines
+pub mod Citing
+pub mod Heights
+pub mod Easiest
+pub mod SearchSteps
 pub mod Admission
 pub mod Finding
 pub mod GoodLayout

@@ -1,16 +1,14 @@
 -- The listed lines among a line's premises, where an array holds how many listed numbers are below each number: a
 -- number is listed if more are below the next. Only the search for number 12 goes by these; law found-use: what it
 -- finds is what `keptUse` says.
-use mathlib.Core.Path.{_≡_}
 use mathlib.Core.Bool.{Bool, true, false, _&&_}
 use mathlib.Core.List.{List}
-use Prim.Native.Nat.{ℕ, _+_, _<_, _≤_}
+use Prim.Native.Nat.{ℕ, _+_}
 use lib.Dec.{ltb}
 use lib.ListN.{getD}
-use Rattle.rules.specs.RuleTable.{IsRule, premiseCount}
+use Rattle.rules.specs.RuleTable.{premiseCount}
 use Rattle.sheets.specs.declared.lines.Line.{Line}
 use Rattle.sheets.specs.declared.uses.Use.{Use}
-use Rattle.sheets.specs.Lines.{lineOf, premisesOf}
 
 -- one more than a premise that is used and listed, else 0
 unfoldable pub listedPremise : List ℕ → Bool → ℕ → ℕ
@@ -32,13 +30,3 @@ highestListed below l =
 -- of two lines that are used, the higher; the first if they are one
 unfoldable pub higherUse : Use → Use → Use
 higherUse u v = elim (ltb (u .above) (v .above)) [ true ↦ v | false ↦ u ]
-
--- a line has a rule and cites earlier lines than line k
-pub record CitesEarlier (l : Line) (k : ℕ) : Type 0 where
-  pub rule : IsRule (l .rule)
-  pub earlier : (j : ℕ) → j < 4 → j < premiseCount (l .rule) → getD (premisesOf l) j 0 < k
-  pub unused : (j : ℕ) → j < 4 → premiseCount (l .rule) ≤ j → getD (premisesOf l) j 0 ≡ 0
-
--- the first count lines of a sheet of this edition do
-abbrev pub CitingLines : ℕ → List ℕ → ℕ → Type 0
-CitingLines edition lines count = (k : ℕ) → k < count → CitesEarlier (lineOf edition lines k) k

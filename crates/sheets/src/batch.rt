@@ -1,6 +1,7 @@
 // Finding the lines that state many judgments: the sheet is admitted once.
 use crate::finding::Wanted;
 use crate::opening::Opened;
+use crate::opening::answer_by;
 use crate::opening::answer_in;
 use crate::opening::batch_of;
 use crate::opening::open_batch;
@@ -63,10 +64,11 @@ fn search_each_flat(sheet: &[u8], o: Opened, numbers: &[u32], answers: &mut [u16
     ensures { λ _. ⌜ now (answers .exit) ≡ over (listed (λ i. answerIn (now (sheet .entry)) o (wantedOf (drop (5 * i) (now (numbers .entry))))) (o .todo)) (now (answers .entry)) ⌝ }
 {
     let n = o.todo;
+    let heights = o.heights;
     let mut i = 0;
     while i < n {
         let start = 5 * i;
-        answers[i] = answer_in(sheet, o, wanted_of(&numbers[start..]));
+        answers[i] = answer_by(sheet, o, &heights, wanted_of(&numbers[start..]));
         i += 1;
     }
 }

@@ -1,6 +1,7 @@
 // Finding the line that states a judgment.
 use crate::admission::Admission;
 use crate::admission::admit;
+use crate::heights::line_heights;
 use crate::layout::edition_of;
 use crate::searching::search_lines;
 ghost use mathlib.Core.Path.{_≡_};
@@ -23,7 +24,7 @@ pub enum Found {
     Refused { number: usize, place: usize },
 }
 
-// Admits a sheet, and finds the lowest line that has these five numbers.
+// Admits a sheet, and finds the line of least height that has these five numbers, of several the last.
 pub fn find(sheet: &[u8], work: &mut [u32], wanted: Wanted) -> Found
     ensures answer { λ r. ⌜ r ≡ findOf (now (sheet .entry)) (length (now (work .entry))) wanted ⌝ }
     ensures left { λ _. ⌜ now (work .exit) ≡ workAfter (now (sheet .entry)) (now (work .entry)) ⌝ }
@@ -36,7 +37,9 @@ pub fn find(sheet: &[u8], work: &mut [u32], wanted: Wanted) -> Found
             lines,
         } => {
             let start = 10 * terms + 4 * contexts;
-            search_lines(edition_of(sheet), &sheet[start..], lines, wanted)
+            let edition = edition_of(sheet);
+            let heights = line_heights(edition, &sheet[start..], lines);
+            search_lines(edition, &sheet[start..], lines, &heights, wanted)
         }
     }
 }

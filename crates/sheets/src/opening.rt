@@ -4,6 +4,7 @@ use crate::admission::admit;
 use crate::batch::Batch;
 use crate::finding::Found;
 use crate::finding::Wanted;
+use crate::heights::line_heights;
 use crate::layout::edition_of;
 use crate::searching::search_lines;
 ghost use mathlib.Core.Path.{_≡_};
@@ -13,7 +14,7 @@ ghost use Rattle.sheets.specs.Batch.{answerFor};
 ghost use Rattle.sheets.specs.Opening.{notOpened, openedOf, answered, Searchable, Answerable, answerIn};
 
 // A batch's refusal, or number 0 with what its searches need: the sheet's edition, where its lines begin, how many they
-// are, and how many judgments are to be found.
+// are, how many judgments are to be found, and the heights of the lines.
 pub struct Opened {
     pub number: usize,
     pub place: usize,
@@ -21,6 +22,7 @@ pub struct Opened {
     pub start: usize,
     pub lines: usize,
     pub todo: usize,
+    pub heights: [u16; 1024],
 }
 
 // A refusal: nothing is to be found.
@@ -34,6 +36,7 @@ fn not_opened(number: usize, place: usize) -> Opened
         start: 0,
         lines: 0,
         todo: 0,
+        heights: [0; 1024],
     }
 }
 
@@ -52,13 +55,17 @@ pub fn open_batch(sheet: &[u8], work: &mut [u32], count: usize, room: usize) -> 
             if room < count {
                 return not_opened(19, 0);
             }
+            let start = 10 * terms + 4 * contexts;
+            let edition = edition_of(sheet);
+            let heights = line_heights(edition, &sheet[start..], lines);
             Opened {
                 number: 0,
                 place: 0,
-                edition: edition_of(sheet),
-                start: 10 * terms + 4 * contexts,
+                edition,
+                start,
                 lines,
                 todo: count,
+                heights,
             }
         }
     }
@@ -89,11 +96,20 @@ fn answer_for(found: Found) -> u16
     }
 }
 
+// The answer for one judgment, sought in an opened sheet whose heights a caller has taken out once for many.
+pub fn answer_by(sheet: &[u8], o: Opened, heights: &[u16; 1024], wanted: Wanted) -> u16
+    requires { ⌜ Searchable (now sheet) o × (now heights ≡ o .heights) ⌝ }
+    ensures { λ r. ⌜ r ≡ answerIn (now (sheet .entry)) o wanted ⌝ }
+{
+    let start = o.start;
+    answer_for(search_lines(o.edition, &sheet[start..], o.lines, heights, wanted))
+}
+
 // The answer for one judgment, sought in an opened sheet.
 pub fn answer_in(sheet: &[u8], o: Opened, wanted: Wanted) -> u16
     requires { ⌜ Searchable (now sheet) o ⌝ }
     ensures { λ r. ⌜ r ≡ answerIn (now (sheet .entry)) o wanted ⌝ }
 {
-    let start = o.start;
-    answer_for(search_lines(o.edition, &sheet[start..], o.lines, wanted))
+    let heights = o.heights;
+    answer_by(sheet, o, &heights, wanted)
 }

@@ -5,8 +5,10 @@ use crate::lines::judgment_of;
 use crate::lines::read_line;
 use rules::judgments::LineJudgment;
 ghost use mathlib.Core.Path.{_≡_};
-ghost use Prim.Native.Nat.{_*_, _≤_};
-ghost use lib.ListN.{length};
+ghost use Prim.Native.Nat.{_*_, _<_, _≤_};
+ghost use lib.ListN.{length, getD};
+ghost use Rattle.sheets.specs.Easiest.{better as betterOf};
+ghost use Rattle.sheets.specs.SearchSteps.{heightsOf, lineBelow};
 ghost use Rattle.sheets.specs.Finding.{hasNumbers, searchLines};
 
 fn wide(number: u32) -> usize
@@ -26,17 +28,43 @@ fn has_numbers(j: LineJudgment, w: Wanted) -> bool
         & (j.s3 == wide(w.s3))
 }
 
-// The lowest of the first `count` lines that has these five numbers.
-pub fn search_lines(edition: usize, lines: &[u8], count: usize, wanted: Wanted) -> Found
-    requires { ⌜ 20 * count ≤ length (now lines) ⌝ }
+// The better of line `n` and the best line before it, of which there is none where `best` is not below `count`: the
+// later one, if it is no higher.
+fn better(heights: &[u16; 1024], count: usize, best: usize, n: usize) -> usize
+    requires { ⌜ (n < count) × (count ≤ 1024) ⌝ }
+    ensures { λ r. ⌜ lineBelow count r ≡ betterOf (λ k. getD (now (heights .entry)) k 0) (lineBelow count best) n ⌝ }
+{
+    if count <= best {
+        return n;
+    }
+    if heights[best] < heights[n] {
+        return best;
+    }
+    n
+}
+
+// The easiest of the first `count` lines that has these five numbers.
+pub fn search_lines(
+    edition: usize,
+    lines: &[u8],
+    count: usize,
+    heights: &[u16; 1024],
+    wanted: Wanted,
+) -> Found
+    requires { ⌜ (20 * count ≤ length (now lines)) × (count ≤ 1024) ⌝ }
+    requires { ⌜ now heights ≡ heightsOf edition (now lines) count ⌝ }
     ensures { λ r. ⌜ r ≡ searchLines edition (now (lines .entry)) count wanted ⌝ }
 {
+    let mut best = count;
     let mut n = 0;
     while n < count {
         if has_numbers(judgment_of(read_line(edition, lines, n)), wanted) {
-            return Found::Line(n);
+            best = better(heights, count, best, n);
         }
         n += 1;
+    }
+    if best < count {
+        return Found::Line(best);
     }
     Found::Refused {
         number: 14,

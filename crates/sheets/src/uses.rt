@@ -10,7 +10,8 @@ ghost use Rattle.rules.specs.RuleTable.{ruleTable, IsRule};
 ghost use Rattle.sheets.specs.LineSets.{Rises};
 ghost use Rattle.sheets.specs.Numbering.{Numbering};
 ghost use Rattle.sheets.specs.ListedUses.{listedPremise, greater as greaterOf};
-ghost use Rattle.sheets.specs.ListedUses.{highestListed, higherUse, CitingLines};
+ghost use Rattle.sheets.specs.ListedUses.{highestListed, higherUse};
+ghost use Rattle.sheets.specs.Citing.{CitingLines};
 ghost use Rattle.sheets.specs.WithdrawalSet.{AllLines, keptUse};
 
 // A listed line that is used, as one more than its number, or 0 for none; and the lowest line that uses it and stays.

@@ -154,7 +154,7 @@ impl Comparer<'_> {
     }
 
     fn compare_searches(&mut self, counts: Counts) {
-        for _ in 0..2 {
+        for _ in 0..3 {
             let wanted = some_judgment(self.sheet, counts, self.random);
             let length = self.work_length();
             self.compare_call(Call::Find(wanted), length, 0);
@@ -270,7 +270,8 @@ impl Comparer<'_> {
         }
         let buffers = Buffers { work, out, answers };
         let (wanted, difference) = on_both(self.reading, self.sheet, call, buffers);
-        self.coverage.add_outcome(call, &wanted);
+        self.coverage
+            .add_outcome(self.sheet, self.reading, call, &wanted);
         self.differences.extend(difference);
         let writes = matches!(call, Call::Withdraw(_) | Call::WithdrawSet(_));
         if writes && wanted.answer.number == 0 {

@@ -22,6 +22,15 @@ const SETS: [&str; 7] = [
 /// What batches are counted under.
 const BATCHES: [&str; 5] = ["empty", "one judgment", "several", "by 19", "by admission"];
 
+/// What judgments that several lines state are counted under: all of them, those whose answer is not the lowest of the
+/// lines, those whose answer is not the last, and those for which several lines have the least height.
+const REPEATED: [&str; 4] = [
+    "all",
+    "not the lowest line",
+    "not the last",
+    "several of least height",
+];
+
 /// Lines by rule; there is no rule 0.
 pub type ByRule = [u64; LAST_RULE as usize + 1];
 const NO_LINES: ByRule = [0; LAST_RULE as usize + 1];
@@ -44,6 +53,8 @@ pub struct Coverage {
     pub judgments: [u64; 2],
     /// Batches answered with words that make no whole judgment, and with answers beyond the list.
     pub longer: [u64; 2],
+    /// Judgments found that several lines state, by single searches and in batches; as `REPEATED` says.
+    pub repeated: [[u64; REPEATED.len()]; 2],
     /// Terms that are not normal, and terms that are.
     pub terms: [u64; 2],
     pub accepted_lines: ByRule,
@@ -65,6 +76,7 @@ impl Default for Coverage {
             batches: [0; BATCHES.len()],
             judgments: [0; 2],
             longer: [0; 2],
+            repeated: [[0; REPEATED.len()]; 2],
             terms: [0; 2],
             accepted_lines: NO_LINES,
             refused_lines: NO_LINES,
@@ -100,7 +112,7 @@ impl Coverage {
         }
     }
 
-    pub fn add_outcome(&mut self, call: Call, outcome: &Outcome) {
+    pub fn add_outcome(&mut self, sheet: &[u8], reading: &Reading, call: Call, outcome: &Outcome) {
         let answer = outcome.answer;
         self.calls += 1;
         self.numbers[answer.number] += 1;
@@ -109,7 +121,14 @@ impl Coverage {
             (Call::WithdrawSet(list), 0) => self.sets[list.len().min(2)] += 1,
             (Call::WithdrawSet(_), number @ 11..=13) => self.sets[number - 8] += 1,
             (Call::WithdrawSet(_), 18) => self.sets[6] += 1,
-            (Call::FindAll(wanted), 0) => self.add_batch(wanted, outcome),
+            (Call::Find(_), 0) => self.add_found(0, sheet, reading, answer.values[0]),
+            (Call::FindAll(wanted), 0) => {
+                self.add_batch(wanted, outcome);
+                let lines = outcome.found().iter().filter(|&&line| line != ABSENT);
+                for &line in lines {
+                    self.add_found(1, sheet, reading, usize::from(line));
+                }
+            }
             (Call::FindAll(_), 19) => self.batches[3] += 1,
             (Call::FindAll(_), _) => self.batches[4] += 1,
             _ => {}
@@ -124,6 +143,22 @@ impl Coverage {
         }
         self.longer[0] += u64::from(wanted.len() > 5 * found.len());
         self.longer[1] += u64::from(outcome.buffers.answers.len() > found.len());
+    }
+
+    /// Counts the judgment that a line was found for, if several state it.
+    fn add_found(&mut self, kind: usize, sheet: &[u8], reading: &Reading, found: usize) {
+        let (counts, heights) = (Counts::stated(sheet), &reading.heights);
+        let judgment = counts.judgment(sheet, found);
+        let states = |&line: &usize| counts.judgment(sheet, line) == judgment;
+        let lines: Vec<usize> = (0..counts.lines).filter(states).collect();
+        if let [lowest, .., last] = lines[..] {
+            let is_least = |line: usize| heights[line] == heights[found];
+            let equals = lines.iter().filter(|&&line| is_least(line)).count();
+            let holds = [true, found != lowest, found != last, equals > 1];
+            for (count, holds) in self.repeated[kind].iter_mut().zip(holds) {
+                *count += u64::from(holds);
+            }
+        }
     }
 
     pub fn all_accepted(&self) -> u64 {
@@ -177,6 +212,11 @@ impl Coverage {
                 "fewer than {goal} batches or their judgments of some kind"
             ));
         }
+        if self.repeated.iter().flatten().any(|&count| count < goal) {
+            missed.push(format!(
+                "fewer than {goal} judgments that several lines state, of some kind"
+            ));
+        }
         for number in NUMBERS.iter().filter(|&&n| self.numbers[n] == 0) {
             missed.push(format!("number {number} was never answered"));
         }
@@ -197,15 +237,20 @@ fn domain(sheet: &[u8], counts: Counts, line: usize) -> usize {
     }
 }
 
+/// The counts with their kinds.
+fn listed(kinds: &[&str], counts: &[u64]) -> Vec<String> {
+    let each = |(kind, count)| format!("{kind} {count}");
+    kinds.iter().zip(counts).map(each).collect()
+}
+
 /// The counts with their kinds: of what was done, the first three, and of what was refused.
 fn counted(kinds: &[&str], counts: &[u64]) -> [String; 2] {
-    let each = |(kind, count)| format!("{kind} {count}");
-    let all: Vec<String> = kinds.iter().zip(counts).map(each).collect();
+    let all = listed(kinds, counts);
     let (done, refused) = all.split_at(3);
     [done, refused].map(|some| some.join(", "))
 }
 
-/// The two tables, the sets of lines, the batches, and the readings of rule 38.
+/// The two tables, the sets of lines, the batches, the judgments of several lines, and the readings of rule 38.
 impl Coverage {
     fn write_numbers(&self, f: &mut fmt::Formatter) -> fmt::Result {
         writeln!(f, "number  answers")?;
@@ -230,6 +275,16 @@ impl Coverage {
             "with words left over {words}, answers beyond {answers}, "
         )?;
         writeln!(f, "judgments stated {stated}, absent {absent}")
+    }
+
+    fn write_repeated(&self, f: &mut fmt::Formatter) -> fmt::Result {
+        let [singly, in_batches] = self.repeated.map(|counts| listed(&REPEATED, &counts));
+        writeln!(
+            f,
+            "judgments of several lines, singly: {}",
+            singly.join(", ")
+        )?;
+        writeln!(f, "in batches: {}", in_batches.join(", "))
     }
 
     fn write_rules(&self, f: &mut fmt::Formatter) -> fmt::Result {
@@ -258,6 +313,7 @@ impl fmt::Display for Coverage {
         self.write_numbers(f)?;
         self.write_sets(f)?;
         self.write_batches(f)?;
+        self.write_repeated(f)?;
         self.write_rules(f)?;
         self.write_domains(f)?;
         writeln!(f, "differences {}", self.differences)

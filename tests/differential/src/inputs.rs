@@ -6,6 +6,7 @@ use crate::generate::derivation::Line;
 use crate::generate::encode::{encode, Style};
 use crate::generate::grow::{grow, some_kind, successors, Kind};
 use crate::generate::maker::Maker;
+use crate::generate::restate::restated;
 use crate::generate::tables::{some_shape, table};
 use crate::mutate::bytes::{change_bytes, change_line_at};
 use crate::mutate::lines::change_line;
@@ -59,7 +60,8 @@ impl Inputs {
         }
     }
 
-    /// The lines that are stated: all, or what some of them rest on; reordered; some repeated.
+    /// The lines that are stated: all, or what some of them rest on; reordered; some repeated, or their judgments
+    /// stated by further lines.
     fn arranged(&mut self, maker: &Maker) -> Vec<Line> {
         let all = &maker.d.lines;
         let mut lines = if self.random.one_in(2) {
@@ -79,6 +81,11 @@ impl Inputs {
         if self.random.one_in(8) {
             let upto = lines.len() + self.random.below(5);
             lines = repeated(&lines, upto, &mut self.random);
+        }
+        if self.random.one_in(3) {
+            let upto = lines.len() + self.random.below(40);
+            let terms = &maker.d.terms;
+            lines = restated(terms, &lines, upto.min(MAX_LINES), &mut self.random);
         }
         lines
     }

@@ -2,7 +2,9 @@
 
 use differential::generate::encode::{encode, Style};
 use differential::generate::grow::{grow, Kind};
+use differential::generate::restate::restated;
 use differential::random::Random;
+use differential::reference::layout::MAX_LINES;
 use differential::reference::reading::Reading;
 use differential::reference::terms::{Node, Terms};
 
@@ -67,12 +69,17 @@ fn generated_sheets_are_accepted() {
         let mut maker = grow(seed, kinds[seed as usize % kinds.len()]);
         assert!(maker.d.unfit.is_empty());
         let lines = maker.d.lines.clone();
+        let random = &mut Random::new(seed);
+        let more = MAX_LINES.min(lines.len() + 60);
+        let again = restated(&maker.d.terms, &lines, more, random);
         let style = Style {
             shuffled: seed % 2 == 0,
             unused_one_in: 9,
             ..Style::default()
         };
-        let sheet = encode(&mut maker.d.terms, &lines, style, &mut Random::new(seed));
-        assert_eq!(Reading::of(&sheet).refusal, None, "seed {seed}");
+        for lines in [lines, again] {
+            let sheet = encode(&mut maker.d.terms, &lines, style, random);
+            assert_eq!(Reading::of(&sheet).refusal, None, "seed {seed}");
+        }
     }
 }

@@ -232,7 +232,7 @@ fn answers_are_those_of_the_samples() {
     bundled_admissions(&mut text);
     set_withdrawals(&mut text);
     batches("batch.list", &mut text);
-    batches("batch_lowest.list", &mut text);
+    batches("batch_heights.list", &mut text);
     let wanted: Vec<&str> = wanted.lines().collect();
     assert_eq!(text.len(), wanted.len());
     for (got, wanted) in text.iter().zip(wanted) {

@@ -1,7 +1,7 @@
 //! Judgments to find in an accepted sheet, one or a batch: stated by a line, nearly so, or not at all.
 
 use crate::random::Random;
-use crate::reference::layout::Counts;
+use crate::reference::layout::{Counts, MAX_LINES};
 
 /// The numbers of some line's judgment, exactly or nearly.
 pub fn some_judgment(sheet: &[u8], counts: Counts, random: &mut Random) -> [u32; 5] {
@@ -16,11 +16,12 @@ pub fn some_judgment(sheet: &[u8], counts: Counts, random: &mut Random) -> [u32;
     wanted
 }
 
-/// The judgment of some line; zeros if there is none.
+/// The judgment of some line, rather a late one, since what is stated again stands at the end; zeros if there is none.
 fn some_stated(sheet: &[u8], counts: Counts, random: &mut Random) -> [u32; 5] {
+    let back = random.pick(&[30, MAX_LINES]).unwrap_or(1);
     match counts.lines {
         0 => [0; 5],
-        lines => counts.judgment(sheet, random.below(lines)),
+        lines => counts.judgment(sheet, lines - 1 - random.below(lines.min(back))),
     }
 }
 

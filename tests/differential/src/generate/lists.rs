@@ -1,7 +1,7 @@
 //! Lists of line numbers to withdraw: most are of lines that no other line cites; the others break a condition.
 
 use crate::random::Random;
-use crate::reference::calls::cited;
+use crate::reference::citations::cited;
 use crate::reference::layout::{Counts, MAX_LINES};
 
 /// A list for an accepted sheet.

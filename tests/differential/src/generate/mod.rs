@@ -1,5 +1,5 @@
-//! Valid derivations at random and their encoding as sheets; term tables of all kinds; judgments to find; lists of
-//! lines to withdraw.
+//! Valid derivations at random, judgments stated again, and their encoding as sheets; term tables of all kinds;
+//! judgments to find; lists of lines to withdraw.
 
 pub mod arrange;
 pub mod conclusions;
@@ -17,6 +17,7 @@ pub mod maker;
 mod non_instances;
 mod normal_steps;
 pub mod normalisation;
+pub mod restate;
 mod steps;
 mod subtypes;
 pub mod tables;

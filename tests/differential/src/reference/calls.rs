@@ -1,10 +1,11 @@
 //! The calls: admission, finding of a judgment and of a batch, withdrawal of a line and of a set of lines, and the
 //! question whether a term is normal, with what they leave in the buffers.
 
+use super::citations::{cited, premise_places};
 use super::layout::{set_word, word, Counts, LINE_ROW};
 use super::reading::Reading;
-use super::rules::premise_count;
 use super::{done, refused, Answer, Refusal};
+use std::cmp::Reverse;
 
 /// What a batch answers where a single search gives 14.
 pub const ABSENT: u16 = 65_535;
@@ -36,13 +37,15 @@ impl Reading {
         }
     }
 
+    /// Of the lines that state a judgment the one of least height, and of those the one with the highest number.
     pub fn find(&self, sheet: &[u8], work: &mut [u32], wanted: [u32; 5]) -> Answer {
         let counts = match self.accept(work) {
             Err(answer) => return answer,
             Ok(counts) => counts,
         };
         let states = |&line: &usize| counts.judgment(sheet, line) == wanted;
-        match (0..counts.lines).find(states) {
+        let order = |&line: &usize| (self.heights[line], Reverse(line));
+        match (0..counts.lines).filter(states).min_by_key(order) {
             Some(line) => done(line),
             None => refused(14, 0),
         }
@@ -166,20 +169,6 @@ fn line_away(sheet: &[u8], line: usize) -> Result<Vec<u8>, Refusal> {
         }),
         None => Ok(without(sheet, counts, line)),
     }
-}
-
-/// The bytes where a line's used premises stand.
-fn premise_places(sheet: &[u8], counts: Counts, line: usize) -> Vec<usize> {
-    let at = counts.line_at(line);
-    let rule = u32::from(word(sheet, at + 2));
-    (0..premise_count(rule)).map(|i| at + 12 + 2 * i).collect()
-}
-
-/// The lines that a line cites.
-pub fn cited(sheet: &[u8], counts: Counts, line: usize) -> Vec<usize> {
-    let places = premise_places(sheet, counts, line);
-    let number = |&at: &usize| usize::from(word(sheet, at));
-    places.iter().map(number).collect()
 }
 
 /// The sheet without a line that no line uses.

@@ -1,9 +1,10 @@
 //! A second implementation of document 01, written from the papers: plain trees, real shift and substitution, and each
 //! rule by building what it concludes. Of document 02, A1: the calendar, walked day by day; A2: normal terms, by the
 //! clauses as printed; A3: rule 38 under either domain; A5: the rules of section 4 of source document 000; A6: sets of
-//! lines, by single withdrawals; A7: batches, by single searches.
+//! lines, by single withdrawals; A7: batches, by single searches; A8: heights, line by line.
 
 pub mod calls;
+pub mod citations;
 mod contexts;
 pub mod dates;
 mod equality;

@@ -1,6 +1,7 @@
 //! Reads a sheet and checks it in the order of document 01: the trailer (1 to 3), then terms, contexts and lines.
 //! Number 4 depends on the work buffer and is tested by the calls.
 
+use super::citations::heights;
 use super::judgments::Judgment;
 use super::layout::{
     word, Counts, LAST_EDITION, MARK, MAX_INDEX, MAX_LENGTH, MAX_LEVEL, MAX_SIZE, TRAILER,
@@ -22,6 +23,8 @@ pub struct Reading {
     pub refused_rule: Option<u32>,
     /// What the terms of an accepted sheet are; of no term if it is refused.
     pub forms: Vec<Form>,
+    /// The heights of the lines of an accepted sheet; of no line if it is refused.
+    pub heights: Vec<usize>,
 }
 
 /// The tables built while reading.
@@ -46,6 +49,7 @@ impl Reading {
                 refusal: Some(refusal),
                 refused_rule: None,
                 forms: Vec::new(),
+                heights: Vec::new(),
             },
             Ok(counts) => read_tables(sheet, counts),
         }
@@ -89,9 +93,9 @@ fn read_tables(sheet: &[u8], counts: Counts) -> Reading {
     let refused_rule = refusal
         .filter(|fault| fault.number >= 9)
         .map(|fault| u32::from(word(sheet, counts.line_at(fault.place) + 2)));
-    let forms = match refusal {
-        None => forms(&tables.terms, &tables.rows),
-        Some(_) => Vec::new(),
+    let (forms, heights) = match refusal {
+        None => (forms(&tables.terms, &tables.rows), heights(sheet, counts)),
+        Some(_) => (Vec::new(), Vec::new()),
     };
     Reading {
         counts: Some(counts),
@@ -99,6 +103,7 @@ fn read_tables(sheet: &[u8], counts: Counts) -> Reading {
         refusal,
         refused_rule,
         forms,
+        heights,
     }
 }
 

@@ -16,7 +16,7 @@ pub struct Sheet {
 }
 
 impl Sheet {
-    fn new(bytes: Vec<u8>) -> Sheet {
+    pub fn new(bytes: Vec<u8>) -> Sheet {
         let reading = Reading::of(&bytes);
         assert_eq!(reading.refusal, None);
         Sheet { bytes, reading }

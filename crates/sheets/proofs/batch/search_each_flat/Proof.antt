@@ -12,11 +12,11 @@ use Rattle.sheets.proofs.batch.search_each_flat.Statement.{statement}
 use Rattle.sheets.proofs.batch.search_each_flat.Tie as tie
 
 abbrev Inv-loop : tie.InvT-loop
-Inv-loop sheet o numbers answers₀ n i₀ answers i =
+Inv-loop sheet o numbers answers₀ n heights i₀ answers i =
     Filling (listed (λ k. answerIn sheet o (wantedOf (drop (5 * k) numbers)))) n answers₀ answers i
 
 abbrev μ-loop : tie.MeasureT-loop
-μ-loop sheet o numbers answers₀ n i₀ answers i = n - i
+μ-loop sheet o numbers answers₀ n heights i₀ answers i = n - i
 
 loop-holds : tie.Need-loop-holds Inv-loop μ-loop
 unfolding listed
@@ -39,12 +39,12 @@ part-wanted-of-end c = omega arith
 
 wanted-of-requires : tie.Need-wanted-of-requires Inv-loop μ-loop
 wanted-of-requires c κs =
-    let turn = c .before .before in
-    let start = turn .before .before .before .before in
+    let turn = c .before .before .before in
+    let start = turn .before .before .before .before .before in
     tail-room (5 * turn .loop .i) 5 (start .args .numbers .now) (omega arith)
 
-answer-in-requires : tie.Need-answer-in-requires Inv-loop μ-loop
-answer-in-requires c κs = c .before .before .before .before .before .before .before .pre .0
+answer-by-requires : tie.Need-answer-by-requires Inv-loop μ-loop
+answer-by-requires c κs = (c .before .before .before .before .before .before .before .before .before .pre .0, refl)
 
 mul-answers : tie.Need-mul-answers Inv-loop μ-loop
 mul-answers c = omega arith
@@ -60,10 +60,10 @@ loop-less c = omega arith
 
 loop-again : tie.Need-loop-again Inv-loop μ-loop
 loop-again c =
-    let turn = c .before .before .before .before in
-    let start = turn .before .before .before .before in
-    filling-element _ (start .pre .2) (turn .loop .inv) (c .before .before .before .loop-test .taken)
-    (c .answer-in .ensures
+    let turn = c .before .before .before .before .before in
+    let start = turn .before .before .before .before .before in
+    filling-element _ (start .pre .2) (turn .loop .inv) (c .before .before .before .before .loop-test .taken)
+    (c .answer-by .ensures
     ∙ ap (answerIn _ _)
     (c .before .wanted-of .ensures ∙ ap wantedOf (part-to-end (start .args .numbers .now) (5 * turn .loop .i))))
 
@@ -86,7 +86,7 @@ search-each-flat-spec =
     part-wanted-of-start
     part-wanted-of-end
     wanted-of-requires
-    answer-in-requires
+    answer-by-requires
     mul-answers
     slice-write-answers
     add-i

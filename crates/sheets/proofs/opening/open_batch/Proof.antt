@@ -1,7 +1,7 @@
 use mathlib.Core.Path.{sym, _∙_}
 use native.Mathlib.Omega.{arith}
 use borrow.Author.Needs.{needs}
-use Rattle.sheets.proofs.AnswerLaws.{accepted-laid}
+use Rattle.sheets.proofs.AnswerLaws.{accepted-laid, lines-citing}
 use Rattle.sheets.proofs.OpeningLaws.{opened-refused, opened-19, opened-all}
 use Rattle.sheets.proofs.opening.open_batch.Statement.{statement}
 use Rattle.sheets.proofs.opening.open_batch.Tie as tie
@@ -31,29 +31,50 @@ returns c =
     let accepted : _ = sym (admitted .0) ∙ read .terms .given .1 in
     (c .not-opened2 .ensures ∙ sym (opened-19 _ _ _ _ _ _ _ accepted (c .before .if1 .taken)), admitted .1)
 
+mul-start : tie.Need-mul-start
+mul-start c =
+    let read = c .before .before in
+    let admitted = read .before .before .before .before .admit .ensures in
+    omega (arith, accepted-laid _ _ _ _ _ _ (admitted .0) (read .terms .given .1))
+
+mul-start-2 : tie.Need-mul-start-2
+mul-start-2 c =
+    let read = c .before .before in
+    let admitted = read .before .before .before .before .admit .ensures in
+    omega (arith, accepted-laid _ _ _ _ _ _ (admitted .0) (read .terms .given .1))
+
+add-start : tie.Need-add-start
+add-start c =
+    let read = c .before .before in
+    let admitted = read .before .before .before .before .admit .ensures in
+    omega (arith, accepted-laid _ _ _ _ _ _ (admitted .0) (read .terms .given .1))
+
 edition-of-requires : tie.Need-edition-of-requires
 edition-of-requires c κs =
     let read = c .before .before in
     let admitted = read .before .before .before .before .admit .ensures in
     omega (arith, accepted-laid _ _ _ _ _ _ (admitted .0) (read .terms .given .1))
 
-mul-t16 : tie.Need-mul-t16
-mul-t16 c =
+sub-line-heights : tie.Need-sub-line-heights
+sub-line-heights c =
     let read = c .before .before .before in
     let admitted = read .before .before .before .before .admit .ensures in
     omega (arith, accepted-laid _ _ _ _ _ _ (admitted .0) (read .terms .given .1))
 
-mul-t17 : tie.Need-mul-t17
-mul-t17 c =
+part-line-heights-start : tie.Need-part-line-heights-start
+part-line-heights-start c =
     let read = c .before .before .before in
     let admitted = read .before .before .before .before .admit .ensures in
     omega (arith, accepted-laid _ _ _ _ _ _ (admitted .0) (read .terms .given .1))
 
-add-t18 : tie.Need-add-t18
-add-t18 c =
-    let read = c .before .before .before in
+part-line-heights-end : tie.Need-part-line-heights-end
+part-line-heights-end c = search needs
+
+line-heights-requires : tie.Need-line-heights-requires
+line-heights-requires c κs =
+    let read = c .before .before .before .before in
     let admitted = read .before .before .before .before .admit .ensures in
-    omega (arith, accepted-laid _ _ _ _ _ _ (admitted .0) (read .terms .given .1))
+    lines-citing _ _ _ _ _ _ (admitted .0) (read .terms .given .1) (c .before .edition-of .ensures)
 
 same-length-2 : tie.Need-same-length-2
 same-length-2 c = search needs
@@ -70,10 +91,12 @@ same-length-3 c = search needs
 
 returns-3 : tie.Need-returns-3
 returns-3 c =
-    let read = c .before .before .before in
+    let asked = c .before .before .before in
+    let read = asked .before .before in
     let admitted = read .before .before .before .before .admit .ensures in
     let accepted : _ = sym (admitted .0) ∙ read .terms .given .1 in
-    (opened-all _ _ _ _ _ _ _ accepted (c .edition-of .ensures) (c .before .if1 .left), admitted .1)
+    let own = c .before .before .edition-of .ensures in
+    (opened-all _ _ _ _ _ _ _ accepted own (c .line-heights .ensures) (asked .if1 .left), admitted .1)
 
 pub open-batch-spec : {M : Type 1} → statement M
 open-batch-spec =
@@ -86,10 +109,14 @@ open-batch-spec =
     not-opened-requires-2
     same-length
     returns
+    mul-start
+    mul-start-2
+    add-start
     edition-of-requires
-    mul-t16
-    mul-t17
-    add-t18
+    sub-line-heights
+    part-line-heights-start
+    part-line-heights-end
+    line-heights-requires
     same-length-2
     returns-2
     same-length-3

@@ -1,26 +1,21 @@
--- The invariant is that the search of the lines ahead answers for the whole.
-use mathlib.Core.Path.{refl}
-use Prim.Native.Nat.{_-_}
+-- The invariant is that `best` is the easiest of the first n lines that has the numbers, if there is one.
+use mathlib.Core.Path.{sym, subst}
+use mathlib.Core.Logic.{⊎-elim}
+use Prim.Native.Nat.{_+_, _-_}
 use native.Mathlib.Omega.{arith}
 use borrow.Author.Needs.{needs}
-use Rattle.terms.proofs.SearchLaws.{Looking, looking-start, looking-here, looking-next, looking-end}
-use Rattle.sheets.specs.declared.finding.Found.the-variants.{Line, Refused}
-use Rattle.sheets.specs.Lines.{lineOf, judgmentOf}
-use Rattle.sheets.specs.Finding.{hasNumbers, searchLines}
+use Rattle.sheets.proofs.FindingLaws.{BestBefore, best-start, best-next, best-passed, best-line, best-none}
 use Rattle.sheets.proofs.searching.search_lines.Statement.{statement}
 use Rattle.sheets.proofs.searching.search_lines.Tie as tie
 
 abbrev Inv-loop : tie.InvT-loop
-Inv-loop edition lines count wanted n₀ n =
-    Looking (λ k. hasNumbers (judgmentOf (lineOf edition lines k)) wanted) Line (Refused 14 0) count
-    (searchLines edition lines count wanted) n
+Inv-loop edition lines count heights wanted best₀ n₀ best n = BestBefore edition lines wanted count best n
 
 abbrev μ-loop : tie.MeasureT-loop
-μ-loop edition lines count wanted n₀ n = count - n
+μ-loop edition lines count heights wanted best₀ n₀ best n = count - n
 
 loop-holds : tie.Need-loop-holds Inv-loop μ-loop
-unfolding searchLines
-loop-holds c = looking-start _ (omega arith) refl
+loop-holds c = best-start _ _ _ _ _ (omega arith)
 
 read-line-requires : tie.Need-read-line-requires Inv-loop μ-loop
 read-line-requires c κs = search needs
@@ -31,10 +26,8 @@ judgment-of-requires c κs = search needs
 has-numbers-requires : tie.Need-has-numbers-requires Inv-loop μ-loop
 has-numbers-requires c κs = search needs
 
-returns : tie.Need-returns Inv-loop μ-loop
-returns c =
-    looking-here (c .before .before .before .before .before .loop .inv) (c .before .before .before .before .loop-test .taken)
-    (cc (c .before .before .before .read-line .ensures, c .before .before .judgment-of .ensures, c .before .has-numbers .ensures, c .if1 .taken))
+better-requires : tie.Need-better-requires Inv-loop μ-loop
+better-requires c κs = search needs
 
 add-n : tie.Need-add-n Inv-loop μ-loop
 add-n c = search needs
@@ -44,11 +37,27 @@ loop-less c = search needs
 
 loop-again : tie.Need-loop-again Inv-loop μ-loop
 loop-again c =
-    looking-next (c .before .before .before .before .before .loop .inv) (c .before .before .before .before .loop-test .taken)
-    (cc (c .before .before .before .read-line .ensures, c .before .before .judgment-of .ensures, c .before .has-numbers .ensures, c .if1 .left))
+    let read = c .before .before .before in
+    let loop = read .before .before .loop in
+    let start = read .before .before .before .before in
+    let within = read .before .loop-test .taken in
+    let line = read .read-line .ensures in
+    let judgment = c .before .before .judgment-of .ensures in
+    let has = c .before .has-numbers .ensures in
+    let best = BestBefore (start .args .edition) (start .args .lines .now) (start .args .wanted) (start .args .count) in
+    ⊎-elim
+    (λ p. subst (λ b. best b (loop .n + 1)) (sym (p .2))
+    (best-next _ _ _ (start .args .heights .now) _ _ _ _ (start .pre .1) (loop .inv) within
+    (cc (line, judgment, has, p .0 .taken)) (p .1 .ensures)))
+    (λ p. subst (λ b. best b (loop .n + 1)) (sym (p .1))
+    (best-passed _ _ _ _ _ _ (loop .inv) within (cc (line, judgment, has, p .0 .left))))
+    (c .if1 .came)
+
+returns : tie.Need-returns Inv-loop μ-loop
+returns c = best-line _ _ _ _ _ _ (c .before .before .loop .inv) (c .before .loop-test .left) (c .if2 .taken)
 
 returns-2 : tie.Need-returns-2 Inv-loop μ-loop
-returns-2 c = looking-end (c .before .loop .inv) (c .loop-test .left)
+returns-2 c = best-none _ _ _ _ _ _ (c .before .before .loop .inv) (c .before .loop-test .left) (c .if2 .left)
 
 pub search-lines-spec : {M : Type 1} → statement M
 search-lines-spec =
@@ -60,8 +69,9 @@ search-lines-spec =
     read-line-requires
     judgment-of-requires
     has-numbers-requires
-    returns
+    better-requires
     add-n
     loop-less
     loop-again
+    returns
     returns-2)

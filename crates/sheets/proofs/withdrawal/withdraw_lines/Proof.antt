@@ -3,7 +3,8 @@ use native.Mathlib.Omega.{arith}
 use Rattle.sheets.specs.Withdrawal.{outFrom}
 use Rattle.sheets.specs.WithdrawalSet.{keptLength}
 use Rattle.sheets.proofs.LineSetLaws.{few-listed}
-use Rattle.sheets.proofs.SetAnswers.{citing-lines, answer-12, answer-13, answer-written, writer-asks}
+use Rattle.sheets.proofs.CitingLaws.{citing-lines}
+use Rattle.sheets.proofs.SetAnswers.{answer-12, answer-13, answer-written, writer-asks}
 use Rattle.sheets.proofs.SetAnswers.{writer-room, writer-leaves}
 use borrow.Author.Needs.{needs}
 use Rattle.sheets.proofs.withdrawal.withdraw_lines.Statement.{statement}

@@ -1,4 +1,5 @@
-use Rattle.sheets.proofs.SetAnswers.{kept, handed-on, admitted-good, gone-on}
+use Rattle.sheets.proofs.AnswerLaws.{admitted-good}
+use Rattle.sheets.proofs.SetAnswers.{kept, handed-on, gone-on}
 use borrow.Author.Needs.{needs}
 use Rattle.sheets.proofs.withdrawal.withdraw_set.Statement.{statement}
 use Rattle.sheets.proofs.withdrawal.withdraw_set.Tie as tie
@@ -15,7 +16,7 @@ enum-known-terms c = search needs
 withdraw-listed-requires : tie.Need-withdraw-listed-requires
 withdraw-listed-requires c κs =
     let c3 = c .before .before .before in
-    admitted-good _ _ _ (c3 .before .before .before .admit .ensures .0) _ _ _ (c .before .before .terms .given .1)
+    admitted-good _ _ _ _ _ _ (c3 .before .before .before .admit .ensures .0) (c .before .before .terms .given .1)
 
 same-length : tie.Need-same-length
 same-length c = search needs
