@@ -1,14 +1,15 @@
 -- A step reads as document 01 has it: an instance of a rule whose premises all stand earlier in the list. And document
--- 02, A5: edition 2 adds rules to those of edition 1.
+-- 02, A5: edition 2 adds rules to those of edition 1. And induction along a derivation.
 -- Assumes nothing.
 use mathlib.Core.Path.{_≡_, refl, sym, _∙_, ap₂, subst}
 use mathlib.Core.Logic.{_↔_, ⊎-elim}
 use mathlib.Core.List.{List, [], _∷_, map, List·Memᴰ·head as here, List·Memᴰ·tail as there, List·Memᴰ·not-nil, List·Memᴰ·cases-cons, Memᴰ·cast}
-use Prim.Native.Nat.{ℕ, _≤_, _<_}
+use Prim.Native.Nat.{ℕ, zero, suc, _≤_, _<_}
 use native.Mathlib.Omega.{arith}
 use lib.ListN.{length, take}
 use lib.Seq.{getD-take, length-take-le}
-use Rattle.terms.specs.Lists.{AllBelow}
+use Rattle.terms.specs.Lists.{AllBelow, All}
+use Rattle.terms.proofs.AllLaws.{all-more}
 use Rattle.rules.specs.Judgment.{Judgment, wf}
 use Rattle.rules.specs.Instance.{Instance}
 use Rattle.rules.specs.Editions.{lastRule, rowIn}
@@ -92,3 +93,15 @@ pub earlier-edition : (js : List Judgment) (d : Derivation 2 js)
     → ((i : ℕ) (h : i < length js) → d i h .rule ≤ lastRule 1) → Derivation 1 js
 earlier-edition js d old =
     same-rows 2 1 js d (λ i h. row-shared 2 1 (d i h .rule) (rules-admitted 2 js d i h) (old i h))
+
+-- induction along what is cited: what holds at a place if it holds at those that its step cites, holds at every place
+module _ {edition : ℕ} {js : List Judgment} (d : Derivation edition js) (P : ℕ → Type 0)
+    (step : (i : ℕ) (h : i < length js) → All P (d i h .places) → P i) where
+  along-to : (bound i : ℕ) → i < bound → i < length js → P i
+  along-to zero i l h = absurd (omega arith)
+  along-to (suc bound) i l h =
+      let s = d i h in
+      step i h (all-more (λ k. k < i) P (s .places) (λ k low. along-to bound k (omega arith) (omega arith)) (s .earlier))
+
+  pub along : (i : ℕ) → i < length js → P i
+  along i h = along-to (suc i) i (omega arith) h

@@ -3,6 +3,7 @@ pub mod DistinctLaws
 pub mod DerivationLaws
 pub mod Numbering
 pub mod Subterms
+pub mod StatedContexts
 pub mod SheetDerives
 pub mod SheetFits
 pub mod BytesOf
@@ -14,3 +15,4 @@ pub mod Listing
 pub mod SheetOf
 pub mod Complete
 pub mod Demand3Holds
+pub mod ScopesHold

@@ -14,7 +14,7 @@ use Rattle.terms.specs.Rows.{term}
 use Rattle.terms.specs.Lists.{AllBelow}
 use Rattle.terms.proofs.Tests.{either}
 use Rattle.rules.specs.Judgment.{Context, Judgment, wf, typed, equal, sub, normal, neutral, steps, form, contextOf, s1, s2, s3, term?}
-use Rattle.rules.specs.Subjects.{lastForm, subjectUse, usesSubject, subjectsOf}
+use Rattle.rules.specs.Subjects.{lastForm, subjectUse, usesSubject, subjectsOf, subjects}
 use Rattle.rules.specs.Instance.{Instance}
 use Rattle.rules.specs.RuleTable.{IsRule, premiseCount}
 use Rattle.rules.specs.Editions.{rowIn}
@@ -30,7 +30,6 @@ use Rattle.sheets.specs.Lines.{lineWord, lineOf, judgmentOf, premisesOf, citedB
 use Rattle.sheets.specs.GoodLines.{LineOk}
 use Rattle.sheets.proofs.BelowLaws.{below-at}
 use Rattle.derivations.specs.Lists.{_∈_}
-use Rattle.derivations.specs.Fits.{subjects}
 use Rattle.derivations.proofs.ListLaws.{in-selected}
 use Rattle.derivations.proofs.Numbering.{number, number-below}
 use Rattle.derivations.proofs.ContextTableOf.{contextNumber, number-empty, Listed, context-number-most}

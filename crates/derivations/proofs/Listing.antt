@@ -9,8 +9,9 @@ use Rattle.terms.specs.Term.{Term, zer, size}
 use Rattle.terms.specs.FreeIndices.{InRange}
 use Rattle.terms.specs.Tag.{children}
 use Rattle.rules.specs.Judgment.{Context, Judgment, contextOf, term?, list?}
+use Rattle.rules.specs.Subjects.{subjects}
 use Rattle.derivations.specs.Lists.{_∈_, distinct}
-use Rattle.derivations.specs.Fits.{subterms, subjects, termsOf, beginnings, contextsOf, Fits}
+use Rattle.derivations.specs.Fits.{subterms, termsOf, beginnings, contextsOf, Fits}
 use Rattle.derivations.proofs.ListLaws.{in-flat, of-flat}
 use Rattle.derivations.proofs.DistinctLaws.{Once, of-distinct, in-distinct, distinct-once}
 use Rattle.derivations.proofs.Numbering.{Closed, closed-distinct}

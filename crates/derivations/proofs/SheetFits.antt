@@ -13,7 +13,7 @@ use Rattle.terms.specs.Rows.{word, tag, term}
 use Rattle.terms.specs.Table.{limit, TermTable}
 use Rattle.terms.proofs.TermLaws.{spelled, downward, unfolded}
 use Rattle.rules.specs.Judgment.{Context, Judgment, contextOf, term?, list?}
-use Rattle.rules.specs.Subjects.{subjectUse, usesSubject, subjectsOf}
+use Rattle.rules.specs.Subjects.{subjectUse, usesSubject, subjectsOf, subjects}
 use Rattle.rules.specs.Contexts.{parentOf, typeOf, context, ContextTable}
 use Rattle.rules.specs.Stated.{plainJudgment, stated}
 use Rattle.rules.proofs.ContextTableLaws.{context-empty, context-step}
@@ -23,7 +23,7 @@ use Rattle.sheets.specs.Layout.{contextsIn}
 use Rattle.sheets.specs.Lines.{judgmentOf, lineAt, statedAt}
 use Rattle.sheets.specs.Good.{Good}
 use Rattle.derivations.specs.Lists.{_∈_}
-use Rattle.derivations.specs.Fits.{subterms, subjects, termsOf, beginnings, contextsOf, Fits}
+use Rattle.derivations.specs.Fits.{subterms, termsOf, beginnings, contextsOf, Fits}
 use Rattle.terms.specs.Lists.{listed, selected}
 use Rattle.sheets.specs.Accepted.{statedBy}
 use Rattle.derivations.proofs.ListLaws.{Among, in-listed, of-listed, of-selected, of-flat}

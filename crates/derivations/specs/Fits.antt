@@ -6,9 +6,8 @@ use Prim.Native.Nat.{_≤_}
 use lib.ListN.{length}
 use Rattle.terms.specs.Term.{Term, var, univ, pi, lam, app, sigma, pair, first, second, nat, zer, succ, ind, size}
 use Rattle.terms.specs.FreeIndices.{InRange}
-use Rattle.rules.specs.Judgment.{Context, Judgment, form, contextOf, s1, s2, s3, term?, list?}
-use Rattle.terms.specs.Lists.{selected}
-use Rattle.rules.specs.Subjects.{subjectUse}
+use Rattle.rules.specs.Judgment.{Context, Judgment, contextOf, term?, list?}
+use Rattle.rules.specs.Subjects.{subjects}
 use Rattle.derivations.specs.Lists.{_∈_, AtMost}
 
 -- the term itself and all that stand in it
@@ -26,11 +25,6 @@ subterms nat = nat ∷ []
 subterms zer = zer ∷ []
 subterms (succ a) = succ a ∷ subterms a
 subterms (ind p a b c) = ind p a b c ∷ (subterms p ++ (subterms a ++ (subterms b ++ subterms c)))
-
--- the subjects that the judgment's form uses
-unfoldable pub subjects : Judgment → List Term
-unfolding form s1 s2 s3 subjectUse selected
-subjects j = selected (subjectUse (form j)) (s1 j ∷ s2 j ∷ s3 j ∷ [])
 
 -- the terms of a list of judgments: subjects and context types, with all their subterms
 unfoldable pub termsOf : List Judgment → List Term

@@ -17,7 +17,7 @@ use Rattle.rules.specs.Contexts.{parentOf, typeOf, context, ContextTable
 use Rattle.rules.specs.declared.contexts.FoundEntry.the-variants.{At, Missing}
 use Rattle.rules.proofs.ContextTableLaws.{context-empty, context-step}
 
-entry-long : {G : Context} {x : ℕ} {A : Term} → Entry G x A → x < length G
+pub entry-long : {G : Context} {x : ℕ} {A : Term} → Entry G x A → x < length G
 entry-long here = omega arith
 entry-long (there e) = let h = entry-long e in omega arith
 

@@ -1,5 +1,7 @@
 pub mod TableLaws
 pub mod TableFitsLaws
+pub mod ContextBounds
+pub mod PremiseLaws
 pub mod CandidateLaws
 pub mod ContextLaws
 pub mod TypingLaws

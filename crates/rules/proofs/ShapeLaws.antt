@@ -8,7 +8,7 @@ use mathlib.Core.List.{List, [], _∷_, _++_, map, cons≢nil}
 use Prim.Native.Nat.{ℕ, zero, suc, _+_, _-_, _≤_, _<_}
 use native.Mathlib.Decide.{decLe}
 use native.Mathlib.Omega.{arith}
-use borrow.Author.Tests.{eqb-true, eq-eqb, ne-eqb}
+use borrow.Author.Tests.{eqb-true, eq-eqb}
 use lib.Dec.{eqb}
 use lib.ListN.{getD, length, take, drop}
 use Rattle.terms.specs.Decides.{Decides}
@@ -23,7 +23,7 @@ use Rattle.rules.specs.Stated.{usedPremises}
 use Rattle.rules.specs.RuleChecks.{ShapedFrom, Shaped, ruleContexts}
 use Rattle.rules.specs.declared.judgments.LineJudgment.{LineJudgment}
 use Rattle.rules.specs.declared.table.RuleRow.{RuleRow}
-use Rattle.rules.proofs.TableLaws.{row-agrees}
+use Rattle.rules.proofs.TableLaws.{row-agrees, counted-same}
 use Rattle.rules.proofs.ContextTableLaws.{context-empty, context-step}
 use Rattle.rules.proofs.ContextTableAnswers.{same-says, other-contexts, parent-given}
 use Rattle.rules.proofs.ArmLaws.{adds-none, Fits}
@@ -100,8 +100,7 @@ module _ (terms contexts : List ℕ) where
   -- `counted_from`
   module _ (rule n : ℕ) where
     pub counted-itself : (rule ≡ 2 → ⊥) → context terms contexts n ≡ countedFrom rule (context terms contexts n)
-    unfolding countedFrom
-    counted-itself h = sym (rw (ne-eqb rule 2 h, countedFrom))
+    counted-itself h = sym (counted-same rule (context terms contexts n) h)
 
     module _ (e : rule ≡ 2) where
       shorter : (G : Context) → countedFrom rule G ≡ drop 1 G

@@ -1,14 +1,19 @@
 -- The rule table agrees with the rule ranges, the premise counts and the 255 marks: one test over all rows, that antt
--- computes, and a law that reads it at each rule; and the ranges themselves, each by such a test.
+-- computes, and a law that reads it at each rule; and the ranges themselves and the forms of premises, each by such a
+-- test.
 use mathlib.Core.Path.{_≡_, refl, subst, sym}
 use mathlib.Core.Logic.{_↔_, _⊎_, inl, inr, Dec·and}
 use Prim.Native.Nat.{ℕ, zero, suc, _*_, _≤_, _<_}
 use native.Mathlib.Nat.{not-suc-le-zero, le-of-suc-le-suc, eq-or-lt-of-le}
 use native.Mathlib.Decide.{ℕ-discrete, decLe}
 use native.Mathlib.Omega.{arith}
+use borrow.Author.Tests.{ne-eqb}
 use lib.ListN.{length}
+use Rattle.rules.specs.Judgment.{Context}
 use Rattle.rules.specs.Subjects.{lastForm}
-use Rattle.rules.specs.RuleTable.{ruleCount, IsRule, ruleTable, RowAgrees, conclusionForm, premiseCount, premiseForm, addedEntries, formOf}
+use Rattle.rules.specs.RuleTable.{ruleCount, IsRule, ruleTable, RowAgrees, conclusionForm, premiseCount, premiseForm}
+use Rattle.rules.specs.RuleTable.{addedEntries, formOf, countedFrom}
+use Rattle.rules.specs.Stated.{lastFormInContext}
 
 -- ten numbers for each rule
 pub table-length : length ruleTable ≡ 10 * ruleCount
@@ -28,6 +33,11 @@ iff? (yes p) (yes q) = yes (λ x. q, λ y. p)
 iff? (yes p) (no q) = no (λ e. q (e .0 p))
 iff? (no p) (yes q) = no (λ e. p (e .1 q))
 iff? (no p) (no q) = yes (λ x. absurd (p x), λ y. absurd (q y))
+
+if? : {P Q : Type 0} → Dec P → Dec Q → Dec (P → Q)
+if? (yes p) (yes q) = yes (λ x. q)
+if? (yes p) (no q) = no (λ f. q (f p))
+if? (no p) d = yes (λ x. absurd (p x))
 
 -- a statement at every number up to n, from it at n and at those below
 upTo : (P : ℕ → Type 0) {n : ℕ} → P n → ((j : ℕ) → j < n → P j) → (j : ℕ) → j < suc n → P j
@@ -120,3 +130,23 @@ range-5 = at-rule (Concludes 5 54 58) (range? 5 54 58) tt
 pub range-6 : (rule : ℕ) → IsRule rule → Concludes 6 59 67 rule
 unfolding below? range? formOf
 range-6 = at-rule (Concludes 6 59 67) (range? 6 59 67) tt
+
+-- a rule that concludes one of forms 0 to 3 has premises of these forms alone
+abbrev PremisesInContext : ℕ → Type 0
+PremisesInContext rule =
+    conclusionForm rule ≤ lastFormInContext → (j : ℕ) → j < premiseCount rule → premiseForm rule j ≤ lastFormInContext
+
+premises? : (rule : ℕ) → Dec (PremisesInContext rule)
+unfolding if? below? decLe
+premises? rule =
+    if? (decLe (conclusionForm rule) lastFormInContext)
+    (below? (λ j. premiseForm rule j ≤ lastFormInContext) (λ j. decLe (premiseForm rule j) lastFormInContext) _)
+
+pub premises-in-context : (rule : ℕ) → IsRule rule → PremisesInContext rule
+unfolding below? premises? conclusionForm premiseCount premiseForm
+premises-in-context = at-rule PremisesInContext premises? tt
+
+-- rule 2 alone counts added entries from another context than the conclusion's
+pub counted-same : (rule : ℕ) (G : Context) → (rule ≡ 2 → ⊥) → countedFrom rule G ≡ G
+unfolding countedFrom
+counted-same rule G h = rw (ne-eqb rule 2 h, countedFrom)

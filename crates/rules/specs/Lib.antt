@@ -3,6 +3,7 @@ pub mod Instance
 pub mod Conditions
 pub mod Readings
 pub mod Subjects
+pub mod Scoped
 pub mod RuleTable
 pub mod Editions
 pub mod Decision

@@ -9,6 +9,7 @@ use lib.Dec.{leb}
 use lib.ListN.{getD, take}
 use Rattle.terms.specs.Term.{Term}
 use Rattle.terms.specs.Rows.{term}
+use Rattle.terms.specs.Lists.{All}
 use Rattle.rules.specs.Judgment.{Context, Judgment, wf, typed, equal, sub, normal, neutral, steps}
 use Rattle.rules.specs.Contexts.{context}
 use Rattle.rules.specs.Subjects.{lastForm, usesSubject, subjectsOf}
@@ -47,8 +48,7 @@ pub record Numbered (termCount count : ℕ) (j : LineJudgment) : Type 0 where
   pub subjects : (k : ℕ) → usesSubject (j .form) k ≡ true → getD (subjectsOf j) k 0 < termCount
 
 abbrev pub AllNumbered : ℕ → ℕ → List LineJudgment → Type 0
-AllNumbered termCount count [] = Unit {0}
-AllNumbered termCount count (p ∷ ps) = Numbered termCount count p × AllNumbered termCount count ps
+AllNumbered termCount count = All (Numbered termCount count)
 
 -- the premises that a rule uses are the first of four
 unfoldable pub usedPremises : ℕ → List LineJudgment → List LineJudgment

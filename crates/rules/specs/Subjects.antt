@@ -1,10 +1,13 @@
 -- Which subjects a form uses: document 01, "The sheet", a line's form, and document 02, A5. The ranges of a judgment's
--- numbers, the zeros of a line and the terms of a derivation all follow this one table.
+-- numbers, the zeros of a line, the terms of a derivation and what is said of their free indices all follow this one
+-- table.
 use mathlib.Core.Bool.{Bool, true, false}
 use mathlib.Core.List.{List, [], _∷_}
 use Prim.Native.Nat.{ℕ}
 use lib.ListN.{getD}
+use Rattle.terms.specs.Term.{Term}
 use Rattle.terms.specs.Lists.{selected}
+use Rattle.rules.specs.Judgment.{Judgment, form, s1, s2, s3}
 use Rattle.rules.specs.declared.judgments.LineJudgment.{LineJudgment}
 use Rattle.rules.specs.declared.judgments.SubjectUse.{SubjectUse}
 
@@ -44,3 +47,8 @@ subjectsOf j = j .s1 ∷ j .s2 ∷ j .s3 ∷ []
 unfoldable pub usedSubjects : ℕ → LineJudgment → List ℕ
 unfolding subjectUse selected subjectsOf
 usedSubjects form j = selected (subjectUse form) (subjectsOf j)
+
+-- the subjects of a plain judgment that its form uses
+unfoldable pub subjects : Judgment → List Term
+unfolding form s1 s2 s3 subjectUse selected
+subjects j = selected (subjectUse (form j)) (s1 j ∷ s2 j ∷ s3 j ∷ [])

@@ -6,6 +6,7 @@ use Prim.Native.Nat.{ℕ, zero, suc, _<_}
 use native.Mathlib.Omega.{arith}
 use lib.ListN.{length, getD}
 use Rattle.terms.specs.Lists.{AllBelow}
+use Rattle.terms.proofs.AllLaws.{all-at}
 
 pub map-below : {A : Type 0} (f g : ℕ → A) (n : ℕ) (l : List ℕ) → AllBelow n l → ((k : ℕ) → k < n → f k ≡ g k)
     → map f l ≡ map g l
@@ -13,8 +14,7 @@ map-below f g n [] b h = refl
 map-below f g n (k ∷ l) b h = ap₂ _∷_ (h k (b .0)) (map-below f g n l (b .1) h)
 
 pub all-below : (n : ℕ) (l : List ℕ) → ((i : ℕ) → i < length l → getD l i 0 < n) → AllBelow n l
-all-below n [] h = tt
-all-below n (k ∷ l) h = (h 0 (omega arith), all-below n l (λ i b. h (suc i) (omega arith)))
+all-below n = all-at (λ k. k < n) 0
 
 pub below-at : (n : ℕ) (l : List ℕ) → AllBelow n l → (i : ℕ) → i < length l → getD l i 0 < n
 below-at n [] b i h = absurd (omega arith)

@@ -7,7 +7,7 @@ use Prim.Native.Nat.{ℕ, zero, suc, _+_, _-_, _≤_, _<_, zero-le}
 use native.Mathlib.Nat.{zero-add}
 use native.Mathlib.Omega.{arith}
 use Rattle.terms.specs.Term.{Term, var}
-use Rattle.terms.specs.Substitution.{shift, substitute, instantiate, _⟨_⟩}
+use Rattle.terms.specs.Substitution.{shift, substitute, instantiate, instantiateBoth, _⟨_⟩, onBoth}
 use Rattle.terms.specs.FreeIndices.{FreeBelow}
 use Rattle.terms.specs.Tag.{Tag, Var, under, binders, shape}
 use Rattle.terms.proofs.Shape.{under-is, shift-shape, substitute-shape, free-shape, by-shape}
@@ -57,6 +57,29 @@ free-substitute k n m σ t h = free-after (λ k. substitute k σ) (λ τ l x k. 
 
 pub free-substitute₀ : (n m : ℕ) (σ : ℕ → Term) (t : Term) → ((i : ℕ) → i < n → FreeBelow m (σ i)) → FreeBelow n t → FreeBelow m (substitute 0 σ t)
 free-substitute₀ n m σ t h f = rw zero-add at (free-substitute 0 n m σ t h (rw zero-add f))
+
+image-below : (n : ℕ) (a : Term) → FreeBelow n a → (i : ℕ) → i < suc n → FreeBelow n (instantiate a i)
+unfolding FreeBelow instantiate
+image-below n a f zero h = f
+image-below n a f (suc i) h = omega arith
+
+images-below : (n : ℕ) (a r : Term) → FreeBelow n a → FreeBelow n r
+    → (i : ℕ) → i < suc (suc n) → FreeBelow n (instantiateBoth a r i)
+unfolding FreeBelow instantiateBoth
+images-below n a r f g zero h = g
+images-below n a r f g (suc zero) h = f
+images-below n a r f g (suc (suc i)) h = omega arith
+
+-- B[a] has the bound of a where that of B is at most one higher
+pub free-instantiate : (n : ℕ) (a t : Term) → FreeBelow n a → FreeBelow (suc n) t → FreeBelow n (t ⟨ a ⟩)
+unfolding _⟨_⟩
+free-instantiate n a t f = free-substitute₀ (suc n) n (instantiate a) t (image-below n a f)
+
+-- and so has c with y and x replaced, where that of c is at most two higher
+pub free-both : (n : ℕ) (c a r : Term) → FreeBelow n a → FreeBelow n r → FreeBelow (suc (suc n)) c
+    → FreeBelow n (onBoth c a r)
+unfolding onBoth
+free-both n c a r f g = free-substitute₀ (suc (suc n)) n (instantiateBoth a r) c (images-below n a r f g)
 
 -- back from the raised term: its bound was lower by 1
 pub free-shift-back : (k n : ℕ) (t : Term) → FreeBelow (k + suc n) (shift k 1 t) → FreeBelow (k + n) t

@@ -18,4 +18,6 @@ pub mod NormalLaws
 pub mod RecognitionLaws
 pub mod SubstitutionLaws
 pub mod FreeIndexLaws
+pub mod FreeInLaws
+pub mod AllLaws
 pub mod IndexLaws

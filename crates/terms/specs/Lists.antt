@@ -1,12 +1,16 @@
--- Lists: numbers below a bound, lists by their places, and parts of a list.
+-- Lists: what holds of every element, numbers below a bound, lists by their places, and parts of a list.
 use mathlib.Core.Bool.{Bool, true, false}
 use mathlib.Core.List.{List, [], _∷_}
 use Prim.Native.Nat.{ℕ, zero, suc, _<_}
 
+-- P holds of every element
+abbrev pub All : {A : Type 0} → (A → Type 0) → List A → Type 0
+All P [] = Unit {0}
+All P (x ∷ l) = P x × All P l
+
 -- every number of the list is below the count
 abbrev pub AllBelow : ℕ → List ℕ → Type 0
-AllBelow count [] = Unit {0}
-AllBelow count (n ∷ ns) = (n < count) × AllBelow count ns
+AllBelow count = All (λ n. n < count)
 
 -- f 0, f 1 and so on, n of them
 unfoldable pub listed : {A : Type 0} → (ℕ → A) → ℕ → List A

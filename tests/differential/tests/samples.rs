@@ -1,17 +1,17 @@
 //! The samples that the repository keeps, sheets, terms and dates, through the reference and the proved library.
 
+#[path = "common/files.rs"]
+mod files;
+
 use differential::compare::{on_both, Buffers, Call, Outcome};
 use differential::dates;
 use differential::reference::dates::{Calendar, Date};
 use differential::reference::layout::{Counts, LINE_ROW, MAX_LENGTH, MAX_TERMS};
 use differential::reference::reading::Reading;
 use differential::reference::Answer;
+use files::{bundled, fields, folder, rows, sheet, sheets};
 use std::fs;
 use std::path::{Path, PathBuf};
-
-fn folder() -> PathBuf {
-    PathBuf::from(env!("CARGO_MANIFEST_DIR")).join("../../crates/samples")
-}
 
 /// An answer as the programs print it.
 fn printed(answer: Answer, values: usize) -> String {
@@ -20,56 +20,6 @@ fn printed(answer: Answer, values: usize) -> String {
     }
     let values = answer.values[..values].iter().map(usize::to_string);
     format!("ok {}", values.collect::<Vec<_>>().join(" "))
-}
-
-fn rows(list: &str) -> Vec<Vec<String>> {
-    fields(&folder().join("data").join(list))
-}
-
-/// The words of each line of a list.
-fn fields(list: &Path) -> Vec<Vec<String>> {
-    let text = fs::read_to_string(list).expect("a readable list");
-    let words = |line: &str| line.split(' ').map(String::from).collect();
-    text.lines().map(words).collect()
-}
-
-fn sheet(name: &str) -> Vec<u8> {
-    fs::read(folder().join("data").join(name)).expect("a readable sheet")
-}
-
-fn entries(folder: &Path) -> impl Iterator<Item = PathBuf> {
-    let entries = fs::read_dir(folder).expect("a folder of samples");
-    entries.map(|entry| entry.expect("an entry").path())
-}
-
-/// The sheets of the bundle, which stand one behind the other, with the lines of its list: name and length.
-fn bundled() -> Vec<(String, Vec<u8>)> {
-    let bundle = sheet("normalisation.sheets");
-    let mut left = &bundle[..];
-    let mut sheets = Vec::new();
-    for row in rows("normalisation.list") {
-        let (sheet, behind) = left.split_at(row[1].parse().expect("a length"));
-        sheets.push((row.join(" "), sheet.to_vec()));
-        left = behind;
-    }
-    assert!(left.is_empty());
-    sheets
-}
-
-/// All sample sheets, those in folders of their own and in the bundle among them, with their paths.
-fn sheets() -> Vec<(PathBuf, Vec<u8>)> {
-    let data = folder().join("data");
-    let inner = entries(&data).filter(|path| path.is_dir());
-    let read = |path: PathBuf| {
-        let sheet = fs::read(&path).expect("a readable sheet");
-        (path, sheet)
-    };
-    let named = |path: &PathBuf| path.extension().is_some_and(|end| end == "sheet");
-    let paths = entries(&data).chain(inner.flat_map(|path| entries(&path)));
-    let bundled = bundled()
-        .into_iter()
-        .map(|(line, sheet)| (line.into(), sheet));
-    paths.filter(named).map(read).chain(bundled).collect()
 }
 
 /// What an answer of a batch is before it is written, as in the list of answers.
