@@ -4,7 +4,7 @@
  *
  * Link libmengyubad.a (`rt staticlib mengyubad` writes it to target/staticlib; x86-64). What each function answers and
  * leaves in the buffers is proved: the contracts stand in crates/mengyubad/src/lib.rt, and the comments here say them
- * in words. docs/FORMAT.md describes sheets, of editions 1 and 2, normal terms and dates.
+ * in words. docs/FORMAT.md describes sheets, of editions 1 to 3, normal terms and dates.
  *
  * What C owes: no pointer is null, even where its length is 0; each points to as many elements as its length says; a
  * buffer that is written overlaps no other; MENGYUBAD_STACK_BYTES of stack are free. Any bytes, lengths and numbers may
@@ -12,7 +12,7 @@
  *
  * Stack: terms are walked by recursion, at most 3,072 levels deep. Measured on admission, which the other functions on
  * sheets begin with, by tests/c/stack.c: a level takes 240 bytes where a term is substituted in and fewer where it is
- * raised, and the rest 12.7 KB, so that 3,072 levels take 750 KB. The deepest walk of a sheet that it builds, some
+ * raised, and the rest 13 KB, so that 3,072 levels take 750 KB. The deepest walk of a sheet that it builds, some
  * 2,030 levels, takes 452 KB. A search or a batch takes 2.2 KB more, for the heights of the lines; withdrawal, of a
  * line or of a set, takes 5 KB more, 755 KB at 3,072 levels. A normal term of 3,072 levels is marked in 642 KB,
  * measured there too. The two functions on dates walk no terms and need little stack.
@@ -54,17 +54,18 @@ enum { MENGYUBAD_STACK_BYTES = 786432 };
 enum mengyubad_number {
     MENGYUBAD_OK = 0,
     MENGYUBAD_LENGTH = 1,           /* length under 16 or over 52,240: 0 */
-    MENGYUBAD_MARK = 2,             /* wrong mark, or an edition that is not defined, 1 and 2 being defined: 0 */
+    MENGYUBAD_MARK = 2,             /* wrong mark, or an edition that is not defined, 1 to 3 being defined: 0 */
     MENGYUBAD_COUNTS = 3,           /* a count over its limit, or distances or length disagree with the counts: 0 */
     MENGYUBAD_WORK_SHORT = 4,       /* work buffer under T words: 0 */
     MENGYUBAD_TERM = 5,             /* term row breaks tag, operand or range: the term */
     MENGYUBAD_TERM_REPEATED = 6,    /* term row equals an earlier one: the term */
     MENGYUBAD_TERM_SIZE = 7,        /* size over 65,535: the term */
     MENGYUBAD_CONTEXT = 8,          /* context row: parent, type number or repetition: the context, from 1 on */
-    MENGYUBAD_LINE = 9,             /* form, rule not of the edition (1: 1 to 43, 2: 1 to 67), range, form 4 to 6
-                                       (rules 44 to 67) outside context 0, unused field, or a premise not earlier:
+    MENGYUBAD_LINE = 9,             /* form, rule not of the edition (1: 1 to 43, 2 and 3: 1 to 67), range, form 4 to
+                                       6 (rules 44 to 67) outside context 0, unused field, or a premise not earlier:
                                        the line */
-    MENGYUBAD_NO_INSTANCE = 10,     /* line is no instance of its rule: the line */
+    MENGYUBAD_NO_INSTANCE = 10,     /* line is no instance of its rule, which for 33 and 34 has the motive as first
+                                       premise in edition 3: the line */
     MENGYUBAD_NO_LINE = 11,         /* withdrawal, no such line: the number given, of a set the highest */
     MENGYUBAD_LINE_USED = 12,       /* withdrawal, a later line uses it as a premise: the lowest such line; of a set,
                                        the highest listed line that an unlisted one uses: the lowest such unlisted

@@ -183,10 +183,14 @@ pub fn single() -> Vec<Input> {
     all.push(admit("one bucket", sheets::one_bucket()));
     all.push(admit("deep context", sheets::deep_context(252)));
     all.push(admit("deep binders", sheets::deep_binders(100, 13)));
-    let trees: [(&str, Build); 3] = [
+    let trees: [(&str, Build); 4] = [
         ("applications, closed tree", sheets::applications),
         ("beta steps, open tree", sheets::beta_steps),
         ("induction steps, large motive", sheets::induction_steps),
+        (
+            "induction steps, motive cited",
+            sheets::induction_steps_cited,
+        ),
     ];
     all.extend(trees.map(|(name, build)| admit(name, build(LARGEST, 3072, 1024))));
     all.push(admit("normalisation", sheets::normalisation(3072, 1024)));

@@ -44,10 +44,11 @@ fn batches() -> Vec<(String, Vec<u32>)> {
     batches
 }
 
-/// The sheets of the bundle, which stand one behind the other, with the lines of its list: name and length.
-fn bundled() -> Vec<(String, Vec<u8>)> {
-    let bundle = sample("normalisation.sheets");
-    let list = list("normalisation.list");
+/// The sheets of a bundle, which stand one behind the other, with the lines of its list: name, length and until when
+/// the answer holds, if it is to change.
+fn bundle(name: &str) -> Vec<(String, Vec<u8>)> {
+    let bundle = sample(&format!("{name}.sheets"));
+    let list = list(&format!("{name}.list"));
     let mut left = &bundle[..];
     let mut sheets = Vec::new();
     for line in list.lines() {
@@ -60,7 +61,12 @@ fn bundled() -> Vec<(String, Vec<u8>)> {
     sheets
 }
 
-/// All sample sheets, those in folders of their own and in the bundle among them.
+/// The sheets of all bundles.
+fn bundled() -> Vec<(String, Vec<u8>)> {
+    ["normalisation", "motives"].map(bundle).concat()
+}
+
+/// All sample sheets, those in folders of their own and in bundles among them.
 fn samples() -> Vec<Vec<u8>> {
     let data = folder().join("data");
     let inner = entries(&data).filter(|path| path.is_dir());
@@ -72,18 +78,18 @@ fn samples() -> Vec<Vec<u8>> {
         .collect()
 }
 
-/// The parts of the list of answers, in their order: on sheets and their lines, on dates, on terms, on the bundle, on
+/// The parts of the list of answers, in their order: on sheets and their lines, on dates, on terms, on the bundles, on
 /// sets of lines, on batches.
 pub enum Part {
     Sheets,
     Dates,
     Terms,
-    Bundle,
+    Bundles,
     Sets,
     Batches,
 }
 
-/// The lines of a part. Dates have hyphens; names of sheets have none, and those of the bundle no ending.
+/// The lines of a part. Dates have hyphens; names of sheets have none, and those of bundles no ending.
 pub fn listed(part: Part) -> Vec<String> {
     let text = fs::read_to_string(folder().join("stdout")).expect("the list of answers");
     let lines: Vec<String> = text.lines().map(String::from).collect();
@@ -95,14 +101,14 @@ pub fn listed(part: Part) -> Vec<String> {
         let next = lines[start..].iter().position(is_next);
         start + next.expect("a line of the next part")
     };
-    let bundle = after(behind, &|line| !on_file(line));
-    let sets = after(bundle, &on_file);
+    let bundles = after(behind, &|line| !on_file(line));
+    let sets = after(bundles, &on_file);
     let on_batches = lines.len() - batches().len();
     match part {
         Part::Sheets => lines[..first].to_vec(),
         Part::Dates => lines[first..behind].to_vec(),
-        Part::Terms => lines[behind..bundle].to_vec(),
-        Part::Bundle => lines[bundle..sets].to_vec(),
+        Part::Terms => lines[behind..bundles].to_vec(),
+        Part::Bundles => lines[bundles..sets].to_vec(),
         Part::Sets => lines[sets..on_batches].to_vec(),
         Part::Batches => lines[on_batches..].to_vec(),
     }
@@ -197,11 +203,11 @@ fn terms_are_answered_as_listed() {
     }
 }
 
-/// A line of the list is a name, a length and the answer.
+/// A line of the list is that of a bundle's list and the answer.
 #[test]
-fn the_bundle_is_answered_as_listed() {
+fn bundles_are_answered_as_listed() {
     let mut checker = Checker::new();
-    let (lines, sheets) = (listed(Part::Bundle), bundled());
+    let (lines, sheets) = (listed(Part::Bundles), bundled());
     assert_eq!(lines.len(), sheets.len());
     for (line, (name, sheet)) in lines.iter().zip(sheets) {
         let (answer, _) = alike(&mut checker, &sheet, &Call::Admit, 3072, 0);
@@ -386,6 +392,7 @@ fn damaged_sheets_are_answered_alike() {
     all.push(sheets::deep_binders(20, 8));
     all.push(sheets::beta_steps(4, 0, 400));
     all.push(sheets::induction_steps(4, 0, 400));
+    all.push(sheets::induction_steps_cited(4, 0, 400));
     all.push(sheets::normalisation(0, 200));
     let mut checker = Checker::new();
     let mut answered = [0; 20];

@@ -1,7 +1,7 @@
 /*
  * Calls the library from C: admits S, finds a judgment and batches of judgments, withdraws a line and sets of lines,
  * marks normal terms, numbers days and asks windows. Prints nothing if all is as document 01 says, and for dates,
- * normal terms, editions, sets of lines, batches and heights document 02, A1, A2 and A5 to A8.
+ * normal terms, editions, sets of lines, batches and heights document 02, A1, A2, A5 to A8 and A10.
  */
 #include <inttypes.h>
 #include <stdbool.h>
@@ -44,12 +44,17 @@ static void put_word(uint8_t **at, unsigned word)
     *(*at)++ = (uint8_t)(word / 256);
 }
 
+static void put_words(uint8_t **at, const unsigned *words, size_t count)
+{
+    for (size_t i = 0; i < count; i++)
+        put_word(at, words[i]);
+}
+
 static void put_trailer(uint8_t **at, unsigned terms, unsigned contexts, unsigned lines, unsigned edition)
 {
     const unsigned to_lines = 20 * lines, to_contexts = to_lines + 4 * contexts, to_terms = to_contexts + 10 * terms;
     const unsigned trailer[] = {terms, contexts, lines, edition, to_terms, to_contexts, to_lines, 0x4C44};
-    for (size_t i = 0; i < 8; i++)
-        put_word(at, trailer[i]);
+    put_words(at, trailer, 8);
 }
 
 /* The sheet S of document 01, "Sample sheets", with its first so many lines. */
@@ -95,7 +100,8 @@ static void admits_editions(void)
         {"edition 0", 0, MENGYUBAD_MARK},
         {"edition 1", 1, MENGYUBAD_OK},
         {"edition 2", 2, MENGYUBAD_OK},
-        {"edition 3", 3, MENGYUBAD_MARK}
+        {"edition 3", 3, MENGYUBAD_OK},
+        {"edition 4", 4, MENGYUBAD_MARK}
     };
     for (size_t i = 0; i < sizeof cases / sizeof *cases; i++) {
         uint8_t sheet[16], *at = sheet;
@@ -106,6 +112,59 @@ static void admits_editions(void)
         const size_t number = mengyubad_admit(sheet, sizeof sheet, work, WORDS, values);
         expect(cases[i].what, number, values, cases[i].number, 0, 0, 0);
         expect_same(cases[i].what, work, poison, sizeof work);
+    }
+}
+
+/* Line 7 states ind(Nat, zero, zero, variable 0) = zero : Nat by rule 33. Its motive is line 3, Nat : U_0 in context 1,
+ * and the printed premises are lines 4 and 6. */
+static size_t induction(uint8_t *sheet, unsigned edition, const unsigned premises[4])
+{
+    static const unsigned rows[] = {
+        10, 0, 0, 0, 0, 1, 0, 0, 0, 0, 2, 0, 0, 0, 0, 11, 0, 0, 0, 0, 13, 0, 3, 3, 1, /* terms */
+        0, 0, 1, 0,                                                                   /* contexts 1 and 2 */
+        0, 1, 0, 0, 0, 0, 0, 0, 0, 0, 1, 12, 0, 0, 0, 2, 0, 0, 0, 0,                  /* lines 0 and 1 */
+        0, 2, 1, 0, 0, 0, 0, 1, 0, 0, 1, 12, 1, 0, 0, 2, 2, 0, 0, 0,                  /* lines 2 and 3 */
+        1, 13, 0, 3, 0, 0, 0, 0, 0, 0, 0, 2, 2, 0, 0, 0, 2, 3, 0, 0,                  /* lines 4 and 5 */
+        1, 3, 2, 1, 0, 0, 5, 0, 0, 0, 2, 33, 0, 4, 3, 0                               /* lines 6 and 7 */
+    };
+    uint8_t *at = sheet;
+    put_words(&at, rows, sizeof rows / sizeof *rows);
+    put_words(&at, premises, 4);
+    put_trailer(&at, 5, 2, 8, edition);
+    return (size_t)(at - sheet);
+}
+
+static void admits_motives(void)
+{
+    enum { BYTES = 234 };
+    static const struct {
+        const char *what;
+        unsigned edition, premises[4];
+        size_t number, values[3];
+    } cases[] = {
+        {"edition 1, no motive", 1, {4, 6, 0, 0}, MENGYUBAD_OK, {5, 2, 8}},
+        {"edition 2, no motive", 2, {4, 6, 0, 0}, MENGYUBAD_OK, {5, 2, 8}},
+        {"edition 3, no motive", 3, {4, 6, 0, 0}, MENGYUBAD_NO_INSTANCE, {7, 0, 0}},
+        {"edition 1, motive", 1, {3, 4, 6, 0}, MENGYUBAD_LINE, {7, 0, 0}},
+        {"edition 2, motive", 2, {3, 4, 6, 0}, MENGYUBAD_LINE, {7, 0, 0}},
+        {"edition 3, motive", 3, {3, 4, 6, 0}, MENGYUBAD_OK, {5, 2, 8}},
+        {"edition 3, motive and a fourth", 3, {3, 4, 6, 1}, MENGYUBAD_LINE, {7, 0, 0}},
+        {"edition 3, motive in context 0", 3, {1, 4, 6, 0}, MENGYUBAD_NO_INSTANCE, {7, 0, 0}},
+        {"edition 3, motive last", 3, {4, 6, 3, 0}, MENGYUBAD_NO_INSTANCE, {7, 0, 0}},
+        {"edition 3, line 7 as its motive", 3, {7, 4, 6, 0}, MENGYUBAD_LINE, {7, 0, 0}},
+        {"edition 4, motive", 4, {3, 4, 6, 0}, MENGYUBAD_MARK, {0, 0, 0}}
+    };
+    static const uint32_t left[WORDS] = {1, 1, 1, 1, 5, 7, 7, 7};
+    for (size_t i = 0; i < sizeof cases / sizeof *cases; i++) {
+        uint8_t sheet[BYTES];
+        uint32_t work[WORDS];
+        size_t values[3] = {9, 9, 9};
+        memcpy(work, poison, sizeof work);
+        expect_length(cases[i].what, induction(sheet, cases[i].edition, cases[i].premises), BYTES);
+        const size_t number = mengyubad_admit(sheet, BYTES, work, WORDS, values);
+        const size_t *wanted = cases[i].values;
+        expect(cases[i].what, number, values, cases[i].number, wanted[0], wanted[1], wanted[2]);
+        expect_same(cases[i].what, work, number == MENGYUBAD_MARK ? poison : left, sizeof work);
     }
 }
 
@@ -220,10 +279,8 @@ static size_t over_nat(uint8_t *sheet, const unsigned (*lines)[10], unsigned cou
 {
     static const unsigned rows[] = {10, 0, 0, 0, 0, 2, 0, 0, 0, 0, 11, 0, 0, 0, 0, 0, 0};
     uint8_t *at = sheet;
-    for (size_t i = 0; i < sizeof rows / sizeof *rows; i++)
-        put_word(&at, rows[i]);
-    for (size_t i = 0; i < 10 * (size_t)count; i++)
-        put_word(&at, lines[i / 10][i % 10]);
+    put_words(&at, rows, sizeof rows / sizeof *rows);
+    put_words(&at, *lines, 10 * (size_t)count);
     put_trailer(&at, 3, 1, count, 2);
     return (size_t)(at - sheet);
 }
@@ -471,6 +528,7 @@ int main(void)
     expect_length("S", sample(s, 5), S_BYTES);
     admits(s);
     admits_editions();
+    admits_motives();
     finds(s);
     finds_all(s);
     finds_least_heights();

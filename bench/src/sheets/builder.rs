@@ -10,6 +10,8 @@ type Judgment = [u16; 5];
 
 #[derive(Default)]
 pub struct Builder {
+    /// The least edition: edition 2 is written where a line needs it.
+    edition: usize,
     rows: Vec<[u16; 5]>,
     sizes: Vec<usize>,
     row_numbers: HashMap<[u16; 5], u16>,
@@ -46,6 +48,19 @@ pub fn children(tag: u16) -> impl Iterator<Item = (usize, u16)> {
 }
 
 impl Builder {
+    pub fn of_edition(edition: usize) -> Builder {
+        Builder {
+            edition,
+            ..Builder::default()
+        }
+    }
+
+    /// What E-INDZERO or E-INDSUC cites: in edition 3 the motive in front of the printed premises.
+    pub fn computed_from(&self, motive: u16, printed: &[u16]) -> Vec<u16> {
+        let cited = (self.edition == 3).then_some(motive);
+        cited.into_iter().chain(printed.iter().copied()).collect()
+    }
+
     /// The number of the row with these words, entered if it is new.
     pub fn row(&mut self, words: [u16; 5]) -> u16 {
         if let Some(&n) = self.row_numbers.get(&words) {
@@ -149,7 +164,7 @@ impl Builder {
         let to_contexts = 4 * c + to_lines;
         let to_terms = 10 * t + to_contexts;
         let later = self.lines.iter().any(|line| line[1] > 43);
-        let edition = if later { 2 } else { 1 };
+        let edition = self.edition.max(if later { 2 } else { 1 });
         let trailer = [t, c, l, edition, to_terms, to_contexts, to_lines, 0x4C44];
         let rows = self.rows.iter().flatten();
         let contexts = self.contexts.iter().flatten();

@@ -19,7 +19,7 @@ pub use normal::{doubled_pairs, nested_arguments, nested_motives, shared_functio
 pub use normalisation::{normalisation, normalisation_steps};
 pub use plausible::{plausible, typical};
 pub use restated::restated;
-pub use trees::{applications, beta_steps, induction_steps, large_nodes};
+pub use trees::{applications, beta_steps, induction_steps, induction_steps_cited, large_nodes};
 
 use builder::Builder;
 

@@ -60,10 +60,11 @@ impl Addition {
 
     /// ind(Nat, m, n, succ y) = the sum : Nat, one E-INDSUC for each succ of m.
     fn computed(&self, b: &mut Builder, m: usize, n: u16) -> u16 {
-        let mut line = b.e_indzero(n, self.sums.step);
+        let Sums { motive, step } = self.sums;
+        let mut line = b.e_indzero(motive, n, step);
         for k in 0..m {
             let number = numeral(b, self.wf, k);
-            let head = b.e_indsuc(number, n, self.sums.step);
+            let head = b.e_indsuc(motive, number, n, step);
             let inner = b.e_suc(line);
             line = b.e_trans(head, inner);
         }

@@ -5,7 +5,7 @@ use super::builder::Builder;
 /// What a sum in one context needs: a + b is ind(Nat, a, b, succ y).
 #[derive(Clone, Copy)]
 pub struct Sums {
-    motive: u16,
+    pub motive: u16,
     pub step: u16,
 }
 

@@ -163,25 +163,25 @@ impl Builder {
         self.equal(32, self.line_context(p), s, &[p, q, r])
     }
 
-    /// E-INDZERO; the motive is the last entry of the second premise's context.
-    pub fn e_indzero(&mut self, p: u16, q: u16) -> u16 {
-        let motive = self.added(self.line_context(q));
+    /// E-INDZERO at a motive, given by its line.
+    pub fn e_indzero(&mut self, motive: u16, p: u16, q: u16) -> u16 {
+        let premises = self.computed_from(motive, &[p, q]);
         let zero = self.zero();
-        let redex = self.ind(motive, zero, self.term(p), self.term(q));
+        let redex = self.ind(self.term(motive), zero, self.term(p), self.term(q));
         let s = [redex, self.term(p), self.kind(p)];
-        self.equal(33, self.line_context(p), s, &[p, q])
+        self.equal(33, self.line_context(p), s, &premises)
     }
 
-    /// E-INDSUC; the motive is the last entry of the third premise's context.
-    pub fn e_indsuc(&mut self, p: u16, q: u16, r: u16) -> u16 {
-        let motive = self.added(self.line_context(r));
-        let [a, b, c] = [p, q, r].map(|line| self.term(line));
+    /// E-INDSUC at a motive, given by its line.
+    pub fn e_indsuc(&mut self, motive: u16, p: u16, q: u16, r: u16) -> u16 {
+        let premises = self.computed_from(motive, &[p, q, r]);
+        let [motive, a, b, c] = [motive, p, q, r].map(|line| self.term(line));
         let number = self.succ(a);
         let redex = self.ind(motive, number, b, c);
         let earlier = self.ind(motive, a, b, c);
         let result = self.at_both(c, a, earlier);
         let s = [redex, result, self.at(motive, number)];
-        self.equal(34, self.line_context(p), s, &[p, q, r])
+        self.equal(34, self.line_context(p), s, &premises)
     }
 
     pub fn l_eq(&mut self, p: u16) -> u16 {

@@ -111,7 +111,15 @@ fn large_type(b: &mut Builder, wf: u16, f: u16, n: u16, doublings: u32) -> u16 {
 
 /// E-INDSUC at a large motive: lines ind(P, succ a_i, b_j, y) = ind(P, a_i, b_j, y). Four walks for each line.
 pub fn induction_steps(doublings: u32, terms: usize, lines: usize) -> Vec<u8> {
-    let mut b = Builder::default();
+    inductions(Builder::default(), doublings, terms, lines)
+}
+
+/// The same in edition 3: each line cites the motive.
+pub fn induction_steps_cited(doublings: u32, terms: usize, lines: usize) -> Vec<u8> {
+    inductions(Builder::of_edition(3), doublings, terms, lines)
+}
+
+fn inductions(mut b: Builder, doublings: u32, terms: usize, lines: usize) -> Vec<u8> {
     let base = family_and_number(&mut b);
     let nat = b.wt_nat(base, 0);
     let inner = b.wf_cons(base, nat);
@@ -127,7 +135,7 @@ pub fn induction_steps(doublings: u32, terms: usize, lines: usize) -> Vec<u8> {
     let starts: Vec<u16> = numbers.iter().map(|&a| b.wt_app(f, a)).collect();
     for (i, j) in pairs(NUMBERS) {
         if b.lines_used() < lines {
-            b.e_indsuc(numbers[i], starts[j], y);
+            b.e_indsuc(motive, numbers[i], starts[j], y);
         }
     }
     filled(b, terms, lines)

@@ -1,4 +1,4 @@
-//! Rules 17 to 34: equality.
+//! Rules 17 to 34: equality; rules 33 and 34 of edition 3 as rows 68 and 69.
 
 use super::images::Put;
 use super::instances::Tables;
@@ -28,7 +28,9 @@ impl Tables {
             31 => c.s2 == p.s1 && c.s3 == p.s3 && self.e_projpair(FIRST, c, p, q, r),
             32 => c.s2 == q.s1 && c.s3 == q.s3 && self.e_projpair(SECOND, c, p, q, r),
             33 => self.e_indzero(c, p, q),
-            _ => self.e_indsuc(n, c, p, q, r),
+            34 => self.e_indsuc(n, c, p, q, r),
+            68 => self.is_motive(c, p) && self.e_indzero(c, q, r),
+            _ => self.is_motive(c, p) && self.e_indsuc(n, c, q, r, s),
         }
     }
 
@@ -119,6 +121,13 @@ impl Tables {
             && self.is_two(redex.operand(0), PAIR, p.s1, q.s1)
             && self.rows.has_tag(r.s3, UNIV)
             && self.image(Put::Row(p.s1), kind.operand(1), q.s3)
+    }
+
+    /// Does `p` give the P of an induction a universe under Nat?
+    fn is_motive(&self, c: &Line, p: &Line) -> bool {
+        self.rows.get(c.s1).operand(0) == p.s1
+            && self.rows.has_tag(p.s3, UNIV)
+            && self.extends_nat(p.context, c.context)
     }
 
     fn e_indzero(&mut self, c: &Line, p: &Line, q: &Line) -> bool {

@@ -42,7 +42,7 @@ impl Tables {
             1 => c.context == 0,
             2 => self.wf_cons(c, premises[1]),
             3..=16 => self.typing(c, premises),
-            17..=34 => self.equality(n, c, premises),
+            17..=34 | 68.. => self.equality(n, c, premises),
             35..=43 => self.subtyping(c, premises),
             _ => self.normalisation(n, c, premises),
         }

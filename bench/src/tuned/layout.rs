@@ -33,7 +33,7 @@ pub fn read(sheet: &[u8], work: usize) -> Result<Counts, usize> {
     }
     let trailer = sheet.last_chunk::<16>().ok_or(1usize)?;
     let word = |j: usize| usize::from(u16::from_le_bytes([trailer[2 * j], trailer[2 * j + 1]]));
-    if word(7) != 0x4C44 || !(1..=2).contains(&word(3)) {
+    if word(7) != 0x4C44 || !(1..=3).contains(&word(3)) {
         return Err(2);
     }
     let counts = Counts {

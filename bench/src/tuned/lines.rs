@@ -1,13 +1,14 @@
 //! Lines, and the check of their own fields (number 9).
 
 use super::layout::Counts;
-use super::table::RULES;
+use super::table::{row, RULES};
 
 pub const ROOM: usize = 1024;
 
 #[derive(Clone, Copy, Default)]
 pub struct Line {
     pub form: u16,
+    /// The rule's row.
     pub rule: u16,
     pub context: u16,
     pub s1: u16,
@@ -18,11 +19,11 @@ pub struct Line {
 
 impl Line {
     #[inline(always)]
-    pub fn read(bytes: &[u8; 20]) -> Line {
+    pub fn read(bytes: &[u8; 20], edition: usize) -> Line {
         let word = |j: usize| u16::from_le_bytes([bytes[2 * j], bytes[2 * j + 1]]);
         Line {
             form: word(0),
-            rule: word(1),
+            rule: row(edition, word(1)),
             context: word(2),
             s1: word(3),
             s2: word(4),
@@ -40,9 +41,7 @@ impl Line {
     /// Number 9 at line `n`: are form, rule and numbers in range, and unused fields 0?
     #[inline(always)]
     pub fn fits(&self, n: usize, counts: &Counts) -> bool {
-        let Some(rule) = RULES.get(usize::from(self.rule)) else {
-            return false;
-        };
+        let rule = &RULES[usize::from(self.rule)];
         if self.rule == 0 || rule.form != self.form {
             return false;
         }

@@ -90,7 +90,8 @@ impl Checker {
     fn check_lines(&mut self, bytes: &[u8], counts: Counts) -> Result<(), (usize, usize)> {
         self.tables.memo.start();
         for (n, words) in bytes.chunks_exact(20).enumerate() {
-            let line = Line::read(words.try_into().expect("twenty bytes"));
+            let words = words.try_into().expect("twenty bytes");
+            let line = Line::read(words, counts.edition);
             if !line.fits(n, &counts) {
                 return Err((9, n));
             }

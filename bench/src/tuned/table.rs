@@ -34,8 +34,19 @@ const NORMAL: (u16, u8) = (4, 0);
 const NEUTRAL: (u16, u8) = (5, 0);
 const STEPS: (u16, u8) = (6, 0);
 
-/// The rules by number; there is no rule 0.
-pub static RULES: [Rule; 68] = [
+/// The rule's row of the table below: in edition 3 rules 33 and 34 have rows of their own. A number that is no rule's
+/// has row 0.
+#[inline(always)]
+pub fn row(edition: usize, rule: u16) -> u16 {
+    match rule {
+        33 | 34 if edition == 3 => rule + 35,
+        68.. => 0,
+        _ => rule,
+    }
+}
+
+/// The rules by number, then rules 33 and 34 of edition 3; there is no rule 0.
+pub static RULES: [Rule; 70] = [
     rule(9, &[]),
     rule(0, &[]),
     rule(0, &[WF, TYPED]),
@@ -104,4 +115,6 @@ pub static RULES: [Rule; 68] = [
     rule(6, &[NORMAL, NORMAL, NORMAL]),
     rule(6, &[NORMAL, NORMAL, NORMAL, NORMAL]),
     rule(6, &[NORMAL, NORMAL, NORMAL, STEPS]),
+    rule(2, &[TYPED_1, TYPED, TYPED_2]),
+    rule(2, &[TYPED_1, TYPED, TYPED, TYPED_2]),
 ];

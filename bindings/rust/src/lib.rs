@@ -1,5 +1,5 @@
 //! The proved checker, as safe functions. Nothing checks these declarations against the Rattle source: they follow
-//! include/mengyubad.h. Sheets are of edition 1 or 2; another edition is refused with number 2. A call on a sheet may
+//! include/mengyubad.h. Sheets are of edition 1 to 3; another edition is refused with number 2. A call on a sheet may
 //! take up to 768 KiB of stack (MENGYUBAD_STACK_BYTES), so a thread that calls should have more.
 
 mod c {

@@ -1,10 +1,11 @@
 -- A step reads as document 01 has it: an instance of a rule whose premises all stand earlier in the list. And document
--- 02, A5: edition 2 adds rules to those of edition 1. And induction along a derivation.
+-- 02, A5: edition 2 adds rules to those of edition 1; of edition 3 see MotivesStated. And induction along a derivation.
 -- Assumes nothing.
 use mathlib.Core.Path.{_≡_, refl, sym, _∙_, ap₂, subst}
 use mathlib.Core.Logic.{_↔_, ⊎-elim}
 use mathlib.Core.List.{List, [], _∷_, map, List·Memᴰ·head as here, List·Memᴰ·tail as there, List·Memᴰ·not-nil, List·Memᴰ·cases-cons, Memᴰ·cast}
-use Prim.Native.Nat.{ℕ, zero, suc, _≤_, _<_}
+use Prim.Native.Nat.{ℕ, zero, suc, _+_, _-_, _≤_, _<_}
+use native.Mathlib.Decide.{decLe}
 use native.Mathlib.Omega.{arith}
 use lib.ListN.{length, take}
 use lib.Seq.{getD-take, length-take-le}
@@ -12,9 +13,9 @@ use Rattle.terms.specs.Lists.{AllBelow, All}
 use Rattle.terms.proofs.AllLaws.{all-more}
 use Rattle.rules.specs.Judgment.{Judgment, wf}
 use Rattle.rules.specs.Instance.{Instance}
-use Rattle.rules.specs.Editions.{lastRule, rowIn}
+use Rattle.rules.specs.Editions.{IsEdition, lastRule, AsksMotive, rowIn}
 use Rattle.rules.proofs.TableFitsLaws.{row-fits}
-use Rattle.rules.proofs.EditionLaws.{row-known, row-admitted}
+use Rattle.rules.proofs.EditionLaws.{row-known, row-own, row-motive}
 use Rattle.derivations.specs.Lists.{_∈_}
 use Rattle.derivations.specs.Derivation.{judgmentAt, Step, Derivation}
 use Rattle.derivations.proofs.ListLaws.{in-place, place-of}
@@ -27,7 +28,7 @@ pub record Follows (edition : ℕ) (before : List Judgment) (conclusion : Judgme
   pub stand : (p : Judgment) → p ∈ premises → p ∈ before
 
 module _ (js : List Judgment) (i : ℕ) (h : i < length js) where
-  place-in : (k : ℕ) → k < i → judgmentAt js k ∈ take i js
+  pub place-in : (k : ℕ) → k < i → judgmentAt js k ∈ take i js
   place-in k l = Memᴰ·cast (sym (getD-take i js k (wf []) l)) (in-place (take i js) k (wf []) (omega (arith, length-take-le i js (omega arith))))
 
   places-in : (places : List ℕ) → AllBelow i places → (p : Judgment) → p ∈ map (judgmentAt js) places → p ∈ take i js
@@ -55,10 +56,18 @@ module _ (js : List Judgment) (i : ℕ) (h : i < length js) where
         },
   )
 
--- edition 2 has every rule: whatever is an instance, it judges by that row
-pub every-rule : {n : ℕ} {ps : List Judgment} {c : Judgment} → Instance n ps c → rowIn 2 n ≡ n
+-- whatever is an instance, some edition judges by that row: edition 2 but for rules 33 and 34 with the motive
+pub every-rule : {n : ℕ} {ps : List Judgment} {c : Judgment} → Instance n ps c
+    → (edition : ℕ) × (rule : ℕ) × IsEdition edition × (rowIn edition rule ≡ n)
 unfolding lastRule
-every-rule {n} i = row-admitted 2 n (row-fits i .known .1)
+every-rule {n} i =
+    elim (decLe n 67) [
+      | yes h ↦ (2, n, (omega arith, omega arith), row-own 2 n h (λ asks. omega (arith, asks)))
+      | no h ↦ let known = row-fits i .known in
+          let asks : AsksMotive 3 (n - 35) = (omega arith, (omega (arith, h), omega (arith, known))) in
+          let joined : n - 35 + 35 ≡ n = omega (arith, h) in
+          (3, n - 35, (omega arith, omega arith), row-motive 3 (n - 35) asks ∙ joined)
+    ]
 
 -- a derivation by one edition is one by any other that has the same rows for the rules that it uses
 pub same-rows : (e f : ℕ) (js : List Judgment) (d : Derivation e js)
@@ -77,22 +86,26 @@ pub rules-admitted : (edition : ℕ) (js : List Judgment) (d : Derivation editio
     → d i h .rule ≤ lastRule edition
 rules-admitted edition js d i h = row-known edition (d i h .rule) .0 (row-fits (d i h .follows) .known) .1
 
--- a rule that two editions admit has one row
-row-shared : (e f rule : ℕ) → rule ≤ lastRule e → rule ≤ lastRule f → rowIn e rule ≡ rowIn f rule
-row-shared e f rule h k = row-admitted e rule h ∙ sym (row-admitted f rule k)
+-- a rule that editions 1 and 2 admit has one row
+row-shared : (e f rule : ℕ) → e ≤ 2 → f ≤ 2 → rule ≤ lastRule e → rule ≤ lastRule f → rowIn e rule ≡ rowIn f rule
+row-shared e f rule a b h k =
+    row-own e rule h (λ asks. omega (arith, asks)) ∙ sym (row-own f rule k (λ asks. omega (arith, asks)))
 
 -- a derivation by edition 1 is one by edition 2
 pub later-edition : (js : List Judgment) → Derivation 1 js → Derivation 2 js
 unfolding lastRule
 later-edition js d =
     same-rows 1 2 js d
-    (λ i h. let old = rules-admitted 1 js d i h in row-shared 1 2 (d i h .rule) old (omega (arith, old)))
+    (λ i h.
+    let old = rules-admitted 1 js d i h in
+    row-shared 1 2 (d i h .rule) (omega arith) (omega arith) old (omega (arith, old)))
 
 -- and one by edition 2 that uses rules of edition 1 alone is one by edition 1
 pub earlier-edition : (js : List Judgment) (d : Derivation 2 js)
     → ((i : ℕ) (h : i < length js) → d i h .rule ≤ lastRule 1) → Derivation 1 js
 earlier-edition js d old =
-    same-rows 2 1 js d (λ i h. row-shared 2 1 (d i h .rule) (rules-admitted 2 js d i h) (old i h))
+    same-rows 2 1 js d
+    (λ i h. row-shared 2 1 (d i h .rule) (omega arith) (omega arith) (rules-admitted 2 js d i h) (old i h))
 
 -- induction along what is cited: what holds at a place if it holds at those that its step cites, holds at every place
 module _ {edition : ℕ} {js : List Judgment} (d : Derivation edition js) (P : ℕ → Type 0)

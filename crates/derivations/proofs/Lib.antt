@@ -4,6 +4,7 @@ pub mod DerivationLaws
 pub mod Numbering
 pub mod Subterms
 pub mod StatedContexts
+pub mod MotivesStated
 pub mod SheetDerives
 pub mod SheetFits
 pub mod BytesOf

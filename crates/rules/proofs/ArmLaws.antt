@@ -49,7 +49,7 @@ own n true e a = sym (adds-none a (eqb-true n 0 e))
 own n false e a = refl
 
 -- the form and the context that a judgment is made of
-form-of : (f : ℕ) (G : Context) (a b A : Term) → f ≤ lastForm → form (plainJudgment f G a b A) ≡ f
+pub form-of : (f : ℕ) (G : Context) (a b A : Term) → f ≤ lastForm → form (plainJudgment f G a b A) ≡ f
 unfolding plainJudgment form
 form-of f G a b A =
     by-form (λ f. f ≤ lastForm → form (plainJudgment f G a b A) ≡ f) (λ h. refl) (λ h. refl) (λ h. refl) (λ h. refl)

@@ -8,7 +8,7 @@ use Prim.Native.Nat.{ℕ, suc, _+_, _-_, _≤_}
 use native.Mathlib.Omega.{arith}
 use lib.ListN.{length}
 use Rattle.terms.specs.Term.{Term, first, succ, ind}
-use Rattle.terms.specs.Substitution.{shift}
+use Rattle.terms.specs.Substitution.{shift, _⟨_⟩, onBoth}
 use Rattle.terms.specs.FreeIndices.{FreeBelow}
 use Rattle.terms.specs.Lists.{All}
 use Rattle.terms.proofs.FreeIndexLaws.{free-shift, free-instantiate, free-both}
@@ -54,6 +54,8 @@ use Rattle.rules.specs.Instance.{
   e-projpair2,
   e-indzero,
   e-indsuc,
+  e-indzero-cited,
+  e-indsuc-cited,
   l-trans,
   l-eq,
   l-univ,
@@ -119,6 +121,18 @@ typing-keeps (wt-ind G P a b c i) ((_, (fP, _)), ((s, (fa, _)), ((_, (fb, _)), (
     (s, (fP, fa, fb, fc), free-instantiate (length G) a P fa fP)
 typing-keeps (wt-conv G A B a) ((s, (fa, _)), ((_, (_, (fB, _))), _)) = (s, fa, fB)
 
+-- E-INDSUC, with or without the motive
+successor-keeps : (G : Context) (P a b c : Term) → Scoped G → FreeBelow (length G) (ind P a b c)
+    → Scoped G × FreeBelow (length G) (ind P (succ a) b c) × FreeBelow (length G) (onBoth c a (ind P a b c))
+    × FreeBelow (length G) (P ⟨ succ a ⟩)
+unfolding FreeBelow
+successor-keeps G P a b c s (fP, fa, fb, fc) = (
+  s,
+  (fP, fa, fb, fc),
+  free-both (length G) c a (ind P a b c) fa (fP, fa, fb, fc) fc,
+  free-instantiate (length G) (succ a) P fa fP,
+)
+
 equality-keeps : {n : ℕ} {ps : List Judgment} {G : Context} {a b A : Term}
     → Instance n ps (equal G a b A) → All NoStray ps
     → Scoped G × FreeBelow (length G) a × FreeBelow (length G) b × FreeBelow (length G) A
@@ -151,12 +165,14 @@ equality-keeps (e-projpair1 G A B a b i) ((s, (fa, (fA, _))), ((_, (fb, _)), _))
 equality-keeps (e-projpair2 G A B a b i) ((s, (fa, _)), ((_, (fb, (fB, _))), _)) = (s, (fa, fb), fb, fB)
 -- P is no premise's subject, but an entry of the last one's context
 equality-keeps (e-indzero G P b c) ((s, (fb, (fPz, _))), (((fP, _), (fc, _)), _)) = (s, (fP, tt, fb, fc), fb, fPz)
-equality-keeps (e-indsuc G P a b c) ((s, (fa, _)), ((_, (fb, _)), (((fP, _), (fc, _)), _))) = (
-  s,
-  (fP, fa, fb, fc),
-  free-both (length G) c a (ind P a b c) fa (fP, fa, fb, fc) fc,
-  free-instantiate (length G) (succ a) P fa fP,
-)
+equality-keeps (e-indsuc G P a b c) ((s, (fa, _)), ((_, (fb, _)), (((fP, _), (fc, _)), _))) =
+    successor-keeps G P a b c s (fP, fa, fb, fc)
+-- the motive has it as subject
+equality-keeps (e-indzero-cited G P b c i) ((_, (fP, _)), ((s, (fb, (fPz, _))), ((_, (fc, _)), _))) =
+    (s, (fP, tt, fb, fc), fb, fPz)
+equality-keeps (e-indsuc-cited G P a b c i)
+    ((_, (fP, _)), ((s, (fa, _)), ((_, (fb, _)), ((_, (fc, _)), _)))) =
+    successor-keeps G P a b c s (fP, fa, fb, fc)
 
 subtyping-keeps : {n : ℕ} {ps : List Judgment} {G : Context} {A B : Term}
     → Instance n ps (sub G A B) → All NoStray ps → Scoped G × FreeBelow (length G) A × FreeBelow (length G) B

@@ -18,6 +18,7 @@ pub mod ArmLaws
 pub mod RangeLaws
 pub mod RuleTableEntries
 pub mod EditionLaws
+pub mod MotiveLaws
 pub mod EmptyContextLaws
 pub mod ShapeLaws
 pub mod SubjectLaws

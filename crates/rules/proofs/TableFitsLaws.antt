@@ -77,6 +77,8 @@ use Rattle.rules.specs.Instance.{
   n-indzero,
   n-indsuc,
   n-indcong,
+  e-indzero-cited,
+  e-indsuc-cited,
 }
 use Rattle.rules.specs.RuleTable.{ruleCount, FitsRow, Adds, countedFrom, conclusionForm, premiseCount, premiseForm, addedEntries}
 
@@ -185,3 +187,7 @@ row-fits (n-projcong2 a b) = fit tt tt refl refl (refl, same, tt)
 row-fits (n-indzero P b c) = fit tt tt refl refl (refl, same, (refl, same, (refl, same, tt)))
 row-fits (n-indsuc P a b c) = fit tt tt refl refl (refl, same, (refl, same, (refl, same, (refl, same, tt))))
 row-fits (n-indcong P a₀ a₁ b c) = fit tt tt refl refl (refl, same, (refl, same, (refl, same, (refl, same, tt))))
+row-fits (e-indzero-cited G P b c i) =
+    fit tt tt refl refl (refl, more (nat ∷ []), (refl, same, (refl, more (P ∷ nat ∷ []), tt)))
+row-fits (e-indsuc-cited G P a b c i) =
+    fit tt tt refl refl (refl, more (nat ∷ []), (refl, same, (refl, same, (refl, more (P ∷ nat ∷ []), tt))))

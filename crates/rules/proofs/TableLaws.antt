@@ -2,7 +2,7 @@
 -- computes, and a law that reads it at each rule; and the ranges themselves and the forms of premises, each by such a
 -- test.
 use mathlib.Core.Path.{_≡_, refl, subst, sym}
-use mathlib.Core.Logic.{_↔_, _⊎_, inl, inr, Dec·and}
+use mathlib.Core.Logic.{_↔_, _⊎_, inl, inr, ⊎-elim, Dec·and}
 use Prim.Native.Nat.{ℕ, zero, suc, _*_, _≤_, _<_}
 use native.Mathlib.Nat.{not-suc-le-zero, le-of-suc-le-suc, eq-or-lt-of-le}
 use native.Mathlib.Decide.{ℕ-discrete, decLe}
@@ -38,6 +38,11 @@ if? : {P Q : Type 0} → Dec P → Dec Q → Dec (P → Q)
 if? (yes p) (yes q) = yes (λ x. q)
 if? (yes p) (no q) = no (λ f. q (f p))
 if? (no p) d = yes (λ x. absurd (p x))
+
+or? : {P Q : Type 0} → Dec P → Dec Q → Dec (P ⊎ Q)
+or? (yes p) d = yes (inl p)
+or? (no p) (yes q) = yes (inr q)
+or? (no p) (no q) = no (⊎-elim p q)
 
 -- a statement at every number up to n, from it at n and at those below
 upTo : (P : ℕ → Type 0) {n : ℕ} → P n → ((j : ℕ) → j < n → P j) → (j : ℕ) → j < suc n → P j
@@ -96,12 +101,19 @@ unfolding below? decLe formOf
 form-small = at-rule (λ rule. formOf rule ≤ lastForm) (λ rule. decLe (formOf rule) lastForm) tt
 
 -- the rules that conclude a form are those of its range
+abbrev Between : ℕ → ℕ → ℕ → Type 0
+Between first last rule = (first ≤ rule) × (rule ≤ last)
+
+between? : (first last rule : ℕ) → Dec (Between first last rule)
+unfolding Dec·and decLe
+between? first last rule = Dec·and (decLe first rule) (decLe rule last)
+
 abbrev pub Concludes : ℕ → ℕ → ℕ → ℕ → Type 0
-Concludes f first last rule = (formOf rule ≡ f) ↔ ((first ≤ rule) × (rule ≤ last))
+Concludes f first last rule = (formOf rule ≡ f) ↔ Between first last rule
 
 range? : (f first last rule : ℕ) → Dec (Concludes f first last rule)
-unfolding iff? Dec·and ℕ-discrete decLe
-range? f first last rule = iff? (ℕ-discrete (formOf rule) f) (Dec·and (decLe first rule) (decLe rule last))
+unfolding iff? between? ℕ-discrete
+range? f first last rule = iff? (ℕ-discrete (formOf rule) f) (between? first last rule)
 
 pub range-0 : (rule : ℕ) → IsRule rule → Concludes 0 1 2 rule
 unfolding below? range? formOf
@@ -111,9 +123,15 @@ pub range-1 : (rule : ℕ) → IsRule rule → Concludes 1 3 16 rule
 unfolding below? range? formOf
 range-1 = at-rule (Concludes 1 3 16) (range? 1 3 16) tt
 
-pub range-2 : (rule : ℕ) → IsRule rule → Concludes 2 17 34 rule
-unfolding below? range? formOf
-range-2 = at-rule (Concludes 2 17 34) (range? 2 17 34) tt
+-- form 2 has two: the last is that of rules 33 and 34 with the motive
+abbrev ConcludesEquality : ℕ → Type 0
+ConcludesEquality rule = (formOf rule ≡ 2) ↔ (Between 17 34 rule ⊎ Between 68 69 rule)
+
+pub range-2 : (rule : ℕ) → IsRule rule → ConcludesEquality rule
+unfolding below? iff? or? between? ℕ-discrete formOf
+range-2 =
+    at-rule ConcludesEquality
+    (λ rule. iff? (ℕ-discrete (formOf rule) 2) (or? (between? 17 34 rule) (between? 68 69 rule))) tt
 
 pub range-3 : (rule : ℕ) → IsRule rule → Concludes 3 35 43 rule
 unfolding below? range? formOf

@@ -85,6 +85,8 @@ use Rattle.rules.specs.Instance.{
   n-indzero,
   n-indsuc,
   n-indcong,
+  e-indzero-cited,
+  e-indsuc-cited,
 }
 
 -- an instance with its rule, premises and conclusion
@@ -225,6 +227,8 @@ candidates =
     (λ c p q r s. found (n-indzero (s1 p) (s1 q) (s1 r))) ∷
     (λ c p q r s. found (n-indsuc (s1 p) (s1 q) (s1 r) (s1 s))) ∷
     (λ c p q r s. found (n-indcong (s1 p) (s1 s) (s2 s) (s1 q) (s1 r))) ∷
+    (λ c p q r s. found (e-indzero-cited (contextOf c) (s1 p) (s1 q) (s1 r) (numberIn (s3 p)))) ∷
+    (λ c p q r s. found (e-indsuc-cited (contextOf c) (s1 p) (s1 q) (s1 r) (s1 s) (numberIn (s3 p)))) ∷
     []
 
 -- the instance of rule n whose letters are read off these judgments; past the last rule again one of rule 1
@@ -303,6 +307,8 @@ same (n-projcong2 a b) = (refl, refl, refl)
 same (n-indzero P b c) = (refl, refl, refl)
 same (n-indsuc P a b c) = (refl, refl, refl)
 same (n-indcong P a₀ a₁ b c) = (refl, refl, refl)
+same (e-indzero-cited G P b c i) = (refl, refl, refl)
+same (e-indsuc-cited G P a b c i) = (refl, refl, refl)
 
 decide : {n : ℕ} {ps : List Judgment} {c : Judgment} (k : Candidate) → (Instance n ps c → Matches n ps c k)
     → Dec (k .number ≡ n) → Dec (k .premises ≡ ps) → Dec (k .conclusion ≡ c) → Dec (Instance n ps c)

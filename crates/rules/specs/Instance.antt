@@ -1,8 +1,9 @@
 -- The 67 rules, a constructor each, named, numbered and ordered as printed: 1 to 43 are sections 1 and 2 of source
 -- document 000 as document 01 amends them, rule 38 with two, one a reading (document 02, A3); 44 to 67 are section 4
--- (document 02, A5). `Instance n premises conclusion` is an instance of rule n; its premises stand left to right as
--- printed. A constructor takes the context (44 to 67 take none), then the rule's letters, capitals first, each in the
--- order of the alphabet; conditions come last.
+-- (document 02, A5). Numbers 68 and 69 are rules 33 and 34 as edition 3 states them (document 02, A10).
+-- `Instance n premises conclusion` is an instance of the rule that row n of the rule table is for; its premises stand
+-- left to right as printed. A constructor takes the context (44 to 67 take none), then the rule's letters, capitals
+-- first, each in the order of the alphabet; conditions come last.
 use mathlib.Core.List.{List, [], _∷_}
 use Prim.Native.Nat.{ℕ, zero, suc, _≤_}
 use Rattle.terms.specs.Term.{Term, var, univ, pi, lam, app, sigma, pair, first, second, nat, zer, succ, ind}
@@ -181,3 +182,12 @@ pub data Instance : ℕ → List Judgment → Judgment → Type 0 where
       → Instance 67
       (normal [] P ∷ normal [] b ∷ normal [] c ∷ steps [] a₀ a₁ ∷ [])
       (steps [] (ind P a₀ b c) (ind P a₁ b c))
+  -- Rules 33 and 34 of edition 3, form 2: G,Nat |- P : U_i is the first premise, the printed ones stand behind it.
+  e-indzero-cited : (G : Context) (P b c : Term) (i : ℕ)
+      → Instance 68
+      (typed (nat ∷ G) P (univ i) ∷ typed G b (P ⟨ zer ⟩) ∷ typed (P ∷ nat ∷ G) c (onSucc P) ∷ [])
+      (equal G (ind P zer b c) b (P ⟨ zer ⟩))
+  e-indsuc-cited : (G : Context) (P a b c : Term) (i : ℕ)
+      → Instance 69
+      (typed (nat ∷ G) P (univ i) ∷ typed G a nat ∷ typed G b (P ⟨ zer ⟩) ∷ typed (P ∷ nat ∷ G) c (onSucc P) ∷ [])
+      (equal G (ind P (succ a) b c) (onBoth c a (ind P a b c)) (P ⟨ succ a ⟩))

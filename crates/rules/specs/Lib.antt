@@ -2,6 +2,7 @@ pub mod Judgment
 pub mod Instance
 pub mod Conditions
 pub mod Readings
+pub mod Motives
 pub mod Subjects
 pub mod Scoped
 pub mod RuleTable

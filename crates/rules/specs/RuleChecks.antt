@@ -27,6 +27,11 @@ pub record LineInTables (terms contexts : List ℕ) (rule : ℕ) (premises : Lis
   pub conclusion : Numbered (given .termCount) (given .count) c
   pub used : AllNumbered (given .termCount) (given .count) (usedPremises rule premises)
 
+-- judgments whose numbers are in range of well-formed tables
+pub record JudgmentsInTables (terms contexts : List ℕ) (js : List LineJudgment) : Type 0 where
+  pub given : ContextsInTable terms contexts []
+  pub numbered : AllNumbered (given .termCount) (given .count) js
+
 -- what the rule table asks of the premises from place j on: their forms, and how many entries their contexts add to
 -- the context G, from which they are counted
 unfoldable pub ShapedFrom : List ℕ → List ℕ → ℕ → Context → ℕ → List LineJudgment → Type 0

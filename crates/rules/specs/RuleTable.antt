@@ -1,7 +1,8 @@
 -- The rule table: document 01, "The 43 rules", and document 02, A5. Ten numbers for each rule, in the rules' order:
 -- conclusion form, premise count, four premise forms, and four counts of entries that each premise's context adds to
 -- the conclusion's, 255 where there is no premise. For rule 2 the added entries are counted from the context without
--- its last entry.
+-- its last entry. Document 02, A10: "edition 3 has its own table rows for these two", rules 33 and 34; they are rows 68
+-- and 69. In all that goes by the table a rule's number is that of its row; `rowIn` of Editions gives it.
 use mathlib.Core.Path.{_≡_}
 use mathlib.Core.Logic.{_↔_}
 use mathlib.Core.List.{List, [], _∷_, _++_}
@@ -12,9 +13,9 @@ use lib.ListN.{getD, length, drop}
 use Rattle.rules.specs.Judgment.{Context, Judgment, form, contextOf}
 use Rattle.rules.specs.declared.table.RuleRow.{RuleRow}
 
--- rules count from 1
+-- rows count from 1
 abbrev pub ruleCount : ℕ
-ruleCount = 67
+ruleCount = 69
 
 -- a rule's number
 abbrev pub IsRule : ℕ → Type 0
@@ -93,6 +94,8 @@ ruleTable =
     6 ∷ 3 ∷ 4 ∷ 4 ∷ 4 ∷ 255 ∷ 0 ∷ 0 ∷ 0 ∷ 255 ∷  -- 65 N-INDZERO
     6 ∷ 4 ∷ 4 ∷ 4 ∷ 4 ∷ 4 ∷ 0 ∷ 0 ∷ 0 ∷ 0 ∷  -- 66 N-INDSUC
     6 ∷ 4 ∷ 4 ∷ 4 ∷ 4 ∷ 6 ∷ 0 ∷ 0 ∷ 0 ∷ 0 ∷  -- 67 N-INDCONG
+    2 ∷ 3 ∷ 1 ∷ 1 ∷ 1 ∷ 255 ∷ 1 ∷ 0 ∷ 2 ∷ 255 ∷  -- 68 E-INDZERO of edition 3
+    2 ∷ 4 ∷ 1 ∷ 1 ∷ 1 ∷ 1 ∷ 1 ∷ 0 ∷ 0 ∷ 2 ∷  -- 69 E-INDSUC of edition 3
     []
 
 -- the number in a rule's row, columns counted from 0; rules count from 1, and 255 stands past the end. Row 0, which is
@@ -134,9 +137,9 @@ ruleRow rule =
     }
 
 -- "The ranges 1-2, 3-16, 17-34 and 35-43 conclude forms 0, 1, 2 and 3", and by document 02, A5, the ranges 44-53, 54-58
--- and 59-67 forms 4, 5 and 6: the last rule of each range, with its form
+-- and 59-67 forms 4, 5 and 6; rows 68 and 69 what rules 33 and 34 do: the last rule of each range, with its form
 abbrev pub ranges : List (ℕ × ℕ)
-ranges = (2, 0) ∷ (16, 1) ∷ (34, 2) ∷ (43, 3) ∷ (53, 4) ∷ (58, 5) ∷ (67, 6) ∷ []
+ranges = (2, 0) ∷ (16, 1) ∷ (34, 2) ∷ (43, 3) ∷ (53, 4) ∷ (58, 5) ∷ (67, 6) ∷ (69, 2) ∷ []
 
 -- the form of the first range that a rule is not behind
 unfoldable pub formAmong : List (ℕ × ℕ) → ℕ → ℕ

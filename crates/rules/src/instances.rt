@@ -19,6 +19,7 @@ use crate::equality::e_suc;
 use crate::equality::e_sym;
 use crate::equality::e_trans;
 use crate::judgments::LineJudgment;
+use crate::motives::gives_motive;
 use crate::normalisation::neutral_instance;
 use crate::normalisation::normal_instance;
 use crate::normalisation::step_instance;
@@ -51,7 +52,7 @@ use crate::wellformed::wf_cons;
 use crate::wellformed::wf_nil;
 ghost use mathlib.Core.Path.{_≡_};
 ghost use mathlib.Core.List.{[], _∷_};
-ghost use Prim.Native.Nat.{_≤_};
+ghost use Prim.Native.Nat.{_<_, _≤_};
 ghost use Rattle.terms.specs.Decides.{Decides};
 ghost use Rattle.rules.specs.RuleTable.{ruleTable};
 ghost use Rattle.rules.specs.Stated.{Follows};
@@ -184,10 +185,10 @@ fn subtyping_instance(
     }
 }
 
-// Does the judgment `c` follow by the rule from those of `p`, `q`, `r`, `s` that the rule uses? The others are not
-// looked at.
+// Rules 1 to 67: does the judgment `c` follow by the rule from those of `p`, `q`, `r`, `s` that the rule uses? The
+// others are not looked at.
 pub fn is_instance(
-    table: &[u8; 670],
+    table: &[u8; 690],
     terms: &[u8],
     contexts: &[u8],
     rule: usize,
@@ -199,6 +200,7 @@ pub fn is_instance(
 ) -> bool
     requires { ⌜ now table ≡ ruleTable ⌝ }
     requires { ⌜ LineInTables (now terms) (now contexts) rule (p ∷ q ∷ r ∷ s ∷ []) c ⌝ }
+    requires { ⌜ rule ≤ 67 ⌝ }
     ensures { λ ok. ⌜ Decides ok (Follows (now (terms .entry)) (now (contexts .entry)) rule (p ∷ q ∷ r ∷ s ∷ []) c) ⌝ }
 {
     if shaped(table, terms, contexts, rule, c, p, q, r, s) {
@@ -215,4 +217,27 @@ pub fn is_instance(
     } else {
         false
     }
+}
+
+// Rules 33 and 34 with the motive, rows 68 and 69: the first premise is the motive, and from those behind it the
+// judgment follows by the rule as printed. Whoever calls these two tells the rows apart (`cites_motive`): so each own
+// check has one caller, into which it is compiled.
+pub fn is_cited_instance(
+    table: &[u8; 690],
+    terms: &[u8],
+    contexts: &[u8],
+    rule: usize,
+    c: LineJudgment,
+    p: LineJudgment,
+    q: LineJudgment,
+    r: LineJudgment,
+    s: LineJudgment,
+) -> bool
+    requires { ⌜ now table ≡ ruleTable ⌝ }
+    requires { ⌜ LineInTables (now terms) (now contexts) rule (p ∷ q ∷ r ∷ s ∷ []) c ⌝ }
+    requires { ⌜ 67 < rule ⌝ }
+    ensures { λ ok. ⌜ Decides ok (Follows (now (terms .entry)) (now (contexts .entry)) rule (p ∷ q ∷ r ∷ s ∷ []) c) ⌝ }
+{
+    gives_motive(terms, contexts, c, p)
+        & is_instance(table, terms, contexts, rule - 35, c, q, r, s, s)
 }

@@ -66,7 +66,7 @@ fn fits_if_used(
 
 // Are the premises of `p`, `q`, `r`, `s` that the rule uses as the table asks? The others are not looked at.
 pub fn shaped(
-    table: &[u8; 670],
+    table: &[u8; 690],
     terms: &[u8],
     contexts: &[u8],
     rule: usize,

@@ -1,13 +1,15 @@
 // The rule table: ten numbers for each rule, rules counted from 1. They are the conclusion's form, the premise count,
-// four premise forms, and four counts of entries that a premise's context adds; 255 where there is no premise.
+// four premise forms, and four counts of entries that a premise's context adds; 255 where there is no premise. Rows 68
+// and 69 are rules 33 and 34 as edition 3 has them.
 ghost use mathlib.Core.Path.{_≡_};
 ghost use Prim.Native.Nat.{_<_, _≤_};
+ghost use Rattle.terms.specs.Decides.{Decides};
 ghost use Rattle.rules.specs.RuleTable.{IsRule, ruleKnown, ruleTable, tableAt, premiseCount, ruleRow, formOf};
 
-// Rules count from 1.
-const RULE_COUNT: usize = 67;
+// Rows count from 1.
+const RULE_COUNT: usize = 69;
 
-const TABLE: [u8; 670] = [
+const TABLE: [u8; 690] = [
     // 1 WF-NIL
     0,
     0,
@@ -745,6 +747,28 @@ const TABLE: [u8; 670] = [
     0,
     0,
     0,
+    // 68 E-INDZERO of edition 3
+    2,
+    3,
+    1,
+    1,
+    1,
+    255,
+    1,
+    0,
+    2,
+    255,
+    // 69 E-INDSUC of edition 3
+    2,
+    4,
+    1,
+    1,
+    1,
+    1,
+    1,
+    0,
+    0,
+    2,
 ];
 
 // What a rule asks of its premises: how many there are, the forms of four, and how many entries their contexts add; 255
@@ -768,15 +792,22 @@ pub fn is_rule(rule: usize) -> bool
     (1 <= rule) & (rule <= RULE_COUNT)
 }
 
+// Is the row one of rules 33 and 34 with the motive? They stand behind all others.
+pub fn cites_motive(rule: usize) -> bool
+    ensures { λ r. ⌜ Decides r (67 < rule) ⌝ }
+{
+    67 < rule
+}
+
 // The table, for a whole sheet: the compiler makes a constant array anew wherever one is used.
-pub fn rule_table() -> [u8; 670]
+pub fn rule_table() -> [u8; 690]
     ensures { λ r. ⌜ r ≡ ruleTable ⌝ }
 {
     TABLE
 }
 
 // The number in a rule's row, columns counted from 0.
-fn table_at(table: &[u8; 670], rule: usize, column: usize) -> usize
+fn table_at(table: &[u8; 690], rule: usize, column: usize) -> usize
     requires { ⌜ now table ≡ ruleTable ⌝ }
     requires { ⌜ IsRule rule × (column < 10) ⌝ }
     ensures { λ r. ⌜ r ≡ tableAt rule column ⌝ }
@@ -785,7 +816,7 @@ fn table_at(table: &[u8; 670], rule: usize, column: usize) -> usize
 }
 
 // What the rule asks of its premises.
-pub fn rule_row(table: &[u8; 670], rule: usize) -> RuleRow
+pub fn rule_row(table: &[u8; 690], rule: usize) -> RuleRow
     requires { ⌜ now table ≡ ruleTable ⌝ }
     requires { ⌜ IsRule rule ⌝ }
     ensures { λ r. ⌜ r ≡ ruleRow rule ⌝ }
@@ -804,7 +835,7 @@ pub fn rule_row(table: &[u8; 670], rule: usize) -> RuleRow
 }
 
 // How many premises the rule has.
-pub fn premise_count(table: &[u8; 670], rule: usize) -> usize
+pub fn premise_count(table: &[u8; 690], rule: usize) -> usize
     requires { ⌜ now table ≡ ruleTable ⌝ }
     requires { ⌜ IsRule rule ⌝ }
     ensures value { λ r. ⌜ r ≡ premiseCount rule ⌝ }
@@ -824,7 +855,8 @@ pub fn conclusion_form(rule: usize) -> usize
         35..=43 => 3,
         44..=53 => 4,
         54..=58 => 5,
-        59..=RULE_COUNT => 6,
+        59..=67 => 6,
+        68..=RULE_COUNT => 2,
         _ => 255,
     }
 }

@@ -1,8 +1,10 @@
 // Cases, 26 words each: the rule, the conclusion and four premises, zeros for those that there are not.
+use rules::instances::is_cited_instance;
 use rules::instances::is_instance;
 use rules::judgments::LineJudgment;
 use rules::judgments::last_context;
 use rules::judgments::subject_use;
+use rules::table::cites_motive;
 use rules::table::conclusion_form;
 use rules::table::is_rule;
 use terms::words::word_at;
@@ -13,6 +15,7 @@ ghost use lib.ListN.{length};
 ghost use Rattle.terms.specs.Decides.{Decides};
 ghost use Rattle.rules.specs.RuleTable.{ruleTable};
 ghost use Rattle.rules.specs.Stated.{Numbered, Follows};
+ghost use Rattle.rules.specs.RuleChecks.{LineInTables};
 ghost use Rattle.rules_demo.specs.Cases.{caseJudgment, Tables, Case, Answered};
 
 // Forms count from 0.
@@ -73,8 +76,31 @@ fn is_case(
         & is_numbered(t, n, s)
 }
 
+// Does the judgment `c` follow by the rule, rows 68 and 69 among them, from the premises that the rule uses?
+fn follows(
+    table: &[u8; 690],
+    terms: &[u8],
+    contexts: &[u8],
+    rule: usize,
+    c: LineJudgment,
+    p: LineJudgment,
+    q: LineJudgment,
+    r: LineJudgment,
+    s: LineJudgment,
+) -> bool
+    requires { ⌜ now table ≡ ruleTable ⌝ }
+    requires { ⌜ LineInTables (now terms) (now contexts) rule (p ∷ q ∷ r ∷ s ∷ []) c ⌝ }
+    ensures { λ ok. ⌜ Decides ok (Follows (now (terms .entry)) (now (contexts .entry)) rule (p ∷ q ∷ r ∷ s ∷ []) c) ⌝ }
+{
+    if cites_motive(rule) {
+        is_cited_instance(table, terms, contexts, rule, c, p, q, r, s)
+    } else {
+        is_instance(table, terms, contexts, rule, c, p, q, r, s)
+    }
+}
+
 fn answer_to(
-    table: &[u8; 670],
+    table: &[u8; 690],
     terms: &[u8],
     t: usize,
     contexts: &[u8],
@@ -91,7 +117,7 @@ fn answer_to(
     ensures { λ a. ⌜ Answered a (Case t n rule (p ∷ q ∷ r ∷ s ∷ []) c) (Follows (now (terms .entry)) (now (contexts .entry)) rule (p ∷ q ∷ r ∷ s ∷ []) c) ⌝ }
 {
     if is_case(t, n, rule, c, p, q, r, s) {
-        if is_instance(table, terms, contexts, rule, c, p, q, r, s) {
+        if follows(table, terms, contexts, rule, c, p, q, r, s) {
             return Answer::Instance;
         }
         return Answer::Refused;
@@ -119,7 +145,7 @@ fn write_line(rule: usize, number: usize, answer: Answer) {
 
 // Runs case `number`.
 fn run(
-    table: &[u8; 670],
+    table: &[u8; 690],
     terms: &[u8],
     t: usize,
     contexts: &[u8],
@@ -145,7 +171,7 @@ fn run(
 
 // Runs so many cases.
 pub fn run_all(
-    table: &[u8; 670],
+    table: &[u8; 690],
     terms: &[u8],
     t: usize,
     contexts: &[u8],

@@ -1,6 +1,6 @@
-// Runs the compiled `is_instance` on the cases of data/cases and of data/normalisation, over the tables beside them. It
-// writes the name of each file and a line for each of its cases. The answers that it is held to, in stdout, were worked
-// out from the rules: the files say how, and why at each case.
+// Runs the compiled `is_instance` and `is_cited_instance` on the cases of data/cases, data/motives and
+// data/normalisation, over the tables beside them. It writes the name of each file and a line for each of its cases.
+// The answers that it is held to, in stdout, were worked out from the rules: the files say how, and why at each case.
 mod cases;
 mod numbers;
 mod tables;
@@ -10,7 +10,7 @@ ghost use mathlib.Core.Path.{_≡_};
 ghost use Rattle.rules.specs.RuleTable.{ruleTable};
 
 // Runs the cases of a file, over tables of terms and of contexts that two others hold.
-fn run_file(table: &[u8; 670], terms_path: &[u8], contexts_path: &[u8], cases_path: &[u8])
+fn run_file(table: &[u8; 690], terms_path: &[u8], contexts_path: &[u8], cases_path: &[u8])
     requires { ⌜ now table ≡ ruleTable ⌝ }
 {
     io::write_all(1, cases_path);
@@ -31,6 +31,7 @@ fn run_file(table: &[u8; 670], terms_path: &[u8], contexts_path: &[u8], cases_pa
 fn main() {
     let table = rule_table();
     run_file(&table, b"terms", b"contexts", b"cases");
+    run_file(&table, b"terms", b"contexts", b"motives");
     run_file(
         &table,
         b"normalisation/terms",

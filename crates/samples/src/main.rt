@@ -1,9 +1,10 @@
 // Runs the samples. Each line of a list names a sheet and the numbers that go with it, or dates; the program writes the
 // line and the answer. A sheet that is left after a withdrawal is admitted on a line of its own. The sheets of a bundle
-// stand one behind the other in one file, in the order of its list, where each has its length beside its name. The
-// sheets that withdrawals of sets are to leave are such a bundle too, without lengths: a line says whether the one that
-// is left is the one expected. A batch of searches is a line with a sheet, the room for answers and the number of
-// judgments, which follow it, a line each; every word of the buffer is written behind the answer.
+// stand one behind the other in one file, in the order of its list, where each has its length beside its name, and a
+// word such as `until_A12` behind it if the answer holds only until that request of document 02. The sheets that
+// withdrawals of sets are to leave are such a bundle too, without lengths: a line says whether the one that is left is
+// the one expected. A batch of searches is a line with a sheet, the room for answers and the number of judgments, which
+// follow it, a line each; every word of the buffer is written behind the answer.
 mod text;
 
 use crate::text::behind_lines;
@@ -348,6 +349,15 @@ fn run_list(path: &[u8], task: Task) {
     }
 }
 
+// Runs the list of a bundle.
+fn run_bundle(bundle: &[u8], list: &[u8]) {
+    let sheets = open_named(bundle);
+    if 0 <= sheets {
+        run_list(list, Task::Bundled(sheets));
+        libc::close(sheets);
+    }
+}
+
 fn main() {
     run_list(b"admit.list", Task::Admit);
     run_list(b"find.list", Task::Find);
@@ -355,11 +365,8 @@ fn main() {
     run_list(b"window.list", Task::Window);
     run_list(b"days.list", Task::Day);
     run_list(b"normal.list", Task::Normal);
-    let sheets = open_named(b"normalisation.sheets");
-    if 0 <= sheets {
-        run_list(b"normalisation.list", Task::Bundled(sheets));
-        libc::close(sheets);
-    }
+    run_bundle(b"normalisation.sheets", b"normalisation.list");
+    run_bundle(b"motives.sheets", b"motives.list");
     let results = open_named(b"withdraw_set.results");
     if 0 <= results {
         run_list(b"withdraw_set.list", Task::WithdrawSet(results));

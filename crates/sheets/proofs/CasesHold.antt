@@ -8,7 +8,7 @@ use Rattle.terms.specs.Rows.{word, tag, termTo, term, rowOf, holdsRow}
 use Rattle.terms.specs.Table.{usedLimit, limit}
 use Rattle.terms.specs.Search.{searchFrom, endsIf}
 use Rattle.terms.specs.Sizes.{fitsRow, repeatedBelow, sumTo, rowSize, sizeAnswer, rowAnswer, rowStep, checkTerms}
-use Rattle.rules.specs.Editions.{editionKnown, lastRule, rowIn}
+use Rattle.rules.specs.Editions.{editionKnown, lastRule, motiveAsked, rowIn}
 use Rattle.rules.specs.Subjects.{usesSubject}
 use Rattle.rules.specs.RuleTable.{ruleKnown, formOf, premiseCount}
 use Rattle.rules.specs.Decision.{instance?}
@@ -24,7 +24,8 @@ use Rattle.sheets.specs.Cases.{sharedWords, wordsOfS, wordsOfM9, answerT
 pub cases-hold : map answered cases ≡ map expected cases
 unfolding tagOf arity used shape wordAt word tag termTo term usedLimit limit
     rowOf fitsRow holdsRow repeatedBelow sumTo rowSize sizeAnswer rowAnswer rowStep checkTerms searchFrom endsIf
-    editionKnown lastRule rowIn usesSubject ruleKnown formOf premiseCount instance? lastContext stated plainJudgment
+    editionKnown lastRule motiveAsked rowIn
+    usesSubject ruleKnown formOf premiseCount instance? lastContext stated plainJudgment
     parentOf typeOf contextTo context contextFits holdsContext repeatedWithin repeatedContext rightContext checkContexts
     contextsIn linesIn trailerWord trailerOf editionOf
     lengthFits markFits limitsFit distancesFit countsFit trailerAnswer layoutOf

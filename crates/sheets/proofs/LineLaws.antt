@@ -11,13 +11,13 @@ use lib.ListN.{getD}
 use borrow.Author.Tests.{ltb-true, ltb-false, lt-ltb, le-ltb}
 use Rattle.terms.specs.Decides.{Decides}
 use Rattle.terms.proofs.Tests.{never, says-lt, says-eq, decides-via, _&_}
-use Rattle.rules.specs.Editions.{lastRule}
+use Rattle.rules.specs.Editions.{lastRule, AsksMotive}
 use Rattle.rules.specs.Subjects.{lastForm, usesSubject, subjectsOf, useOf}
 use Rattle.rules.specs.RuleTable.{IsRule, formOf, premiseCount}
 use Rattle.rules.specs.Stated.{lastFormInContext, lastContext}
 use Rattle.rules.specs.declared.judgments.LineJudgment.{LineJudgment}
 use Rattle.rules.specs.declared.judgments.SubjectUse.{SubjectUse}
-use Rattle.rules.proofs.EditionLaws.{last-first, row-known, row-same}
+use Rattle.rules.proofs.EditionLaws.{last-first, row-known, row-motive, row-own}
 use Rattle.rules.proofs.SubjectLaws.{unused-past, by-place, says-context}
 use Rattle.rules.proofs.RuleTableEntries.{says-rule}
 use Rattle.rules.proofs.TableLaws.{form-small}
@@ -173,15 +173,25 @@ module _ (l : Line) (n T C : ℕ) where
       & (says-context (l .form) C (l .context) & subjects-say (judgmentOf l) T
       & premises-say l (premiseCount (l .rule)) n))
 
--- a line that passes number 9 has a rule that its sheet's edition admits, and is judged by the row of that number
+-- a line that passes number 9 has a rule that its sheet's edition admits, and is judged by the row of that number, but
+-- for rules 33 and 34 of an edition that asks for the motive
 module _ (b : List ℕ) (T C n : ℕ) where
-  pub rule-admitted : LineOk (lineAt b T C n) n T C
-      → (lineWord (linesIn b T C) n 1 ≤ lastRule (editionOf b)) × (lineAt b T C n .rule ≡ lineWord (linesIn b T C) n 1)
+  abbrev ruleWord : ℕ
+  ruleWord = lineWord (linesIn b T C) n 1
+
+  pub rule-admitted : LineOk (lineAt b T C n) n T C → (1 ≤ ruleWord) × (ruleWord ≤ lastRule (editionOf b))
   unfolding lineAt lineOf
-  rule-admitted ok =
-      let rule = lineWord (linesIn b T C) n 1 in
-      (row-known (editionOf b) rule .0 (ok .rule) .1, row-same (editionOf b) rule (ok .rule))
+  rule-admitted ok = row-known (editionOf b) ruleWord .0 (ok .rule)
+
+  pub rule-own : LineOk (lineAt b T C n) n T C → (AsksMotive (editionOf b) ruleWord → ⊥)
+      → lineAt b T C n .rule ≡ ruleWord
+  unfolding lineAt lineOf
+  rule-own ok plain = row-own (editionOf b) ruleWord (rule-admitted ok .1) plain
+
+  pub rule-motive : AsksMotive (editionOf b) ruleWord → lineAt b T C n .rule ≡ ruleWord + 35
+  unfolding lineAt lineOf
+  rule-motive asks = row-motive (editionOf b) ruleWord asks
 
   -- "An edition 1 sheet with a rule above 43 still gets 9" (document 02, A5)
-  pub old-rule : editionOf b ≡ 1 → 43 < lineWord (linesIn b T C) n 1 → LineOk (lineAt b T C n) n T C → ⊥
-  old-rule e h ok = omega (arith, rule-admitted ok .0, last-first (editionOf b) (omega (arith, e)))
+  pub old-rule : editionOf b ≡ 1 → 43 < ruleWord → LineOk (lineAt b T C n) n T C → ⊥
+  old-rule e h ok = omega (arith, rule-admitted ok, last-first (editionOf b) (omega (arith, e)))

@@ -32,7 +32,7 @@ fn one_more(height: u16) -> usize
 
 // The height of a line over the heights of those before it. A premise that its rule does not use is line 0, which has
 // height 0.
-fn height_of(table: &[u8; 670], line: Line, heights: &[u16; 1024]) -> usize
+fn height_of(table: &[u8; 690], line: Line, heights: &[u16; 1024]) -> usize
     requires { ⌜ now table ≡ ruleTable ⌝ }
     requires { ⌜ CitesEarlier line 1024 × (getD (now heights) 0 0 ≡ 0) ⌝ }
     ensures { λ r. ⌜ r ≡ above (map (λ n. getD (now (heights .entry)) n 0) (citedBy line)) ⌝ }

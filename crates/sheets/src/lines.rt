@@ -1,10 +1,12 @@
 // Lines: ten words each.
 use crate::layout::edition_of;
 use rules::editions::row_in;
+use rules::instances::is_cited_instance;
 use rules::instances::is_instance;
 use rules::judgments::LineJudgment;
 use rules::judgments::last_context;
 use rules::judgments::subject_use;
+use rules::table::cites_motive;
 use rules::table::conclusion_form;
 use rules::table::is_rule;
 use rules::table::premise_count;
@@ -126,7 +128,7 @@ fn numbers_fit(line: Line, count: usize, n: usize, terms: usize, contexts: usize
 }
 
 // Number 9 at line `n`, over the given numbers of terms and of contexts.
-fn line_fits(table: &[u8; 670], line: Line, n: usize, terms: usize, contexts: usize) -> bool
+fn line_fits(table: &[u8; 690], line: Line, n: usize, terms: usize, contexts: usize) -> bool
     requires { ⌜ now table ≡ ruleTable ⌝ }
     ensures { λ r. ⌜ r ≡ lineFits line n terms contexts ⌝ }
 {
@@ -140,7 +142,7 @@ fn line_fits(table: &[u8; 670], line: Line, n: usize, terms: usize, contexts: us
 
 // Number 10 at line `n`. An unused premise word is 0, and line 0 is there; what it states is not looked at.
 fn line_follows(
-    table: &[u8; 670],
+    table: &[u8; 690],
     sheet: &[u8],
     edition: usize,
     terms: usize,
@@ -161,17 +163,13 @@ fn line_follows(
     let q = judgment_of(read_line(edition, lines, line.p1));
     let r = judgment_of(read_line(edition, lines, line.p2));
     let s = judgment_of(read_line(edition, lines, line.p3));
-    is_instance(
-        table,
-        sheet,
-        context_rows,
-        line.rule,
-        judgment_of(line),
-        p,
-        q,
-        r,
-        s,
-    )
+    let c = judgment_of(line);
+    let rule = line.rule;
+    if cites_motive(rule) {
+        is_cited_instance(table, sheet, context_rows, rule, c, p, q, r, s)
+    } else {
+        is_instance(table, sheet, context_rows, rule, c, p, q, r, s)
+    }
 }
 
 // Checks the first `count` lines in order: 9, then 10, at each.

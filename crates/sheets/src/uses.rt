@@ -41,7 +41,7 @@ fn greater(m: usize, n: usize) -> usize
 }
 
 // One more than the highest listed line among the premises that the line's rule uses; 0 if none is listed.
-fn highest_listed(table: &[u8; 670], line: Line, below: &[u16; 1025]) -> usize
+fn highest_listed(table: &[u8; 690], line: Line, below: &[u16; 1025]) -> usize
     requires { ⌜ now table ≡ ruleTable ⌝ }
     requires { ⌜ IsRule (line .rule) ⌝ }
     requires { ⌜ (line .p0 < 1024) × (line .p1 < 1024) × (line .p2 < 1024) × (line .p3 < 1024) ⌝ }

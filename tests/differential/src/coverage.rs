@@ -2,9 +2,10 @@
 
 use crate::compare::{Call, Outcome};
 use crate::reference::calls::ABSENT;
+use crate::reference::citations::cited;
 use crate::reference::layout::{word, Counts, LAST_EDITION};
 use crate::reference::reading::Reading;
-use crate::reference::rules::LAST_RULE;
+use crate::reference::rules::{cites_motive, LAST_RULE};
 use std::fmt;
 
 /// Runs of at least this many inputs have the greater goals.
@@ -31,9 +32,22 @@ const REPEATED: [&str; 4] = [
     "several of least height",
 ];
 
-/// Lines by rule; there is no rule 0.
-pub type ByRule = [u64; LAST_RULE as usize + 1];
-const NO_LINES: ByRule = [0; LAST_RULE as usize + 1];
+/// What accepted lines of rules 33 and 34 of edition 3 are counted under, by the line cited for the motive: the only
+/// one that gives P a universe in G,Nat, the lowest of several, or another.
+const MOTIVES: [&str; 3] = ["the only one", "the lowest of several", "a later one"];
+
+/// Lines by rule, those of rules 33 and 34 of edition 3 apart as 68 and 69; there is no rule 0.
+pub type ByRule = [u64; LAST_RULE as usize + 3];
+const NO_LINES: ByRule = [0; LAST_RULE as usize + 3];
+
+/// By how much 68 and 69 are above the rules that are counted under them.
+const APART: usize = 35;
+
+/// What a rule of an edition is counted under.
+pub fn row(edition: u16, rule: u32) -> usize {
+    let apart = cites_motive(edition, rule);
+    rule as usize + if apart { APART } else { 0 }
+}
 
 pub struct Coverage {
     pub inputs: u64,
@@ -61,6 +75,8 @@ pub struct Coverage {
     pub refused_lines: ByRule,
     /// Accepted lines of rule 38 by what the second premise stands under: A0, A1, or A0 = A1.
     pub domains: [u64; 3],
+    /// Accepted lines of rules 33 and 34 of edition 3; as `MOTIVES` says.
+    pub motives: [u64; MOTIVES.len()],
 }
 
 impl Default for Coverage {
@@ -81,6 +97,7 @@ impl Default for Coverage {
             accepted_lines: NO_LINES,
             refused_lines: NO_LINES,
             domains: [0; 3],
+            motives: [0; MOTIVES.len()],
         }
     }
 }
@@ -88,15 +105,15 @@ impl Default for Coverage {
 impl Coverage {
     pub fn add_input(&mut self, sheet: &[u8], reading: &Reading) {
         self.inputs += 1;
+        let Some(counts) = reading.counts else {
+            return;
+        };
         if let Some(rule) = reading
             .refused_rule
             .filter(|rule| (1..=LAST_RULE).contains(rule))
         {
-            self.refused_lines[rule as usize] += 1;
+            self.refused_lines[row(counts.edition, rule)] += 1;
         }
-        let Some(counts) = reading.counts else {
-            return;
-        };
         let lines = match reading.refusal {
             None => counts.lines,
             Some(fault) if fault.number >= 9 => fault.place,
@@ -104,11 +121,18 @@ impl Coverage {
         };
         self.accepted[usize::from(counts.edition)] += u64::from(reading.refusal.is_none());
         for line in 0..lines {
-            let rule = word(sheet, counts.line_at(line) + 2);
-            self.accepted_lines[usize::from(rule)] += 1;
-            if rule == 38 {
-                self.domains[domain(sheet, counts, line)] += 1;
-            }
+            self.add_accepted_line(sheet, counts, line);
+        }
+    }
+
+    fn add_accepted_line(&mut self, sheet: &[u8], counts: Counts, line: usize) {
+        let rule = u32::from(word(sheet, counts.line_at(line) + 2));
+        self.accepted_lines[row(counts.edition, rule)] += 1;
+        if rule == 38 {
+            self.domains[domain(sheet, counts, line)] += 1;
+        }
+        if cites_motive(counts.edition, rule) {
+            self.motives[motive(sheet, counts, line)] += 1;
         }
     }
 
@@ -175,47 +199,32 @@ impl Coverage {
 
     /// The goals that the run missed.
     pub fn missed(&self) -> Vec<String> {
-        let mut missed = Vec::new();
         let full = self.inputs >= FULL_RUN;
         let goal = if full { FULL_GOAL } else { 1 };
-        if self.least_accepted() < goal {
-            missed.push(format!("a rule has fewer than {goal} accepted lines"));
-        }
-        if self.least_refused() < goal {
-            missed.push(format!("a rule has fewer than {goal} refused lines"));
-        }
+        let searched = [&self.batches[..], &self.judgments, &self.longer].concat();
+        let kinds = [
+            ("accepted lines of some rule", &self.accepted_lines[1..]),
+            ("refused lines of some rule", &self.refused_lines[1..]),
+            ("accepted inputs of some edition", &self.accepted[1..]),
+            ("lines of rule 38 in some reading", &self.domains),
+            ("motives cited of some kind", &self.motives),
+            ("terms that are normal, or are not", &self.terms),
+            ("sets of lines of some kind", &self.sets),
+            ("batches or their judgments of some kind", &searched),
+            ("judgments of several lines, singly", &self.repeated[0]),
+            ("judgments of several lines, in batches", &self.repeated[1]),
+        ];
+        let few = kinds
+            .iter()
+            .filter(|(_, counts)| counts.iter().any(|&count| count < goal));
+        let mut missed: Vec<String> = few
+            .map(|(kind, _)| format!("fewer than {goal} {kind}"))
+            .collect();
         if self.unfit > 0 {
             missed.push(format!("{} generated lines are no instances", self.unfit));
         }
         if full && self.all_accepted() * 5 < self.inputs {
             missed.push("fewer than a fifth of the inputs are accepted".to_string());
-        }
-        if self.accepted[1..].iter().any(|&count| count < goal) {
-            missed.push(format!(
-                "fewer than {goal} inputs of an edition are accepted"
-            ));
-        }
-        if self.domains.iter().any(|&count| count < goal) {
-            missed.push(format!(
-                "fewer than {goal} lines of rule 38 hold in some reading"
-            ));
-        }
-        if self.terms.iter().any(|&count| count < goal) {
-            missed.push(format!("fewer than {goal} terms are normal, or are not"));
-        }
-        if self.sets.iter().any(|&count| count < goal) {
-            missed.push(format!("fewer than {goal} sets of lines of some kind"));
-        }
-        let searched = [&self.batches[..], &self.judgments, &self.longer].concat();
-        if searched.iter().any(|&count| count < goal) {
-            missed.push(format!(
-                "fewer than {goal} batches or their judgments of some kind"
-            ));
-        }
-        if self.repeated.iter().flatten().any(|&count| count < goal) {
-            missed.push(format!(
-                "fewer than {goal} judgments that several lines state, of some kind"
-            ));
         }
         for number in NUMBERS.iter().filter(|&&n| self.numbers[n] == 0) {
             missed.push(format!("number {number} was never answered"));
@@ -226,14 +235,32 @@ impl Coverage {
 
 /// What the second premise of an accepted line of rule 38 stands under: 0 for A0, 1 for A1, 2 if they are equal.
 fn domain(sheet: &[u8], counts: Counts, line: usize) -> usize {
-    let cited = |place: usize| usize::from(word(sheet, counts.line_at(line) + 2 * place));
-    let [_, _, a1, a0, _] = counts.judgment(sheet, cited(6));
-    let [_, under, ..] = counts.judgment(sheet, cited(7));
+    let cited = cited(sheet, counts, line);
+    let [_, _, a1, a0, _] = counts.judgment(sheet, cited[0]);
+    let [_, under, ..] = counts.judgment(sheet, cited[1]);
     let entry = word(sheet, counts.context_at(under as usize) + 2);
     match [a0, a1].map(|a| a == u32::from(entry)) {
         [true, true] => 2,
         [true, false] => 0,
         _ => 1,
+    }
+}
+
+/// Which of the earlier lines that give P a universe an accepted line cites for the motive: 0 for the only one, 1 for
+/// the lowest of several, 2 for another.
+fn motive(sheet: &[u8], counts: Counts, line: usize) -> usize {
+    let cited = cited(sheet, counts, line)[0];
+    let [_, under_nat, p, ..] = counts.judgment(sheet, cited);
+    let is_universe = |term: u32| word(sheet, counts.term_at(term as usize)) == 2;
+    let gives = |&other: &usize| {
+        let [form, context, s1, _, s3] = counts.judgment(sheet, other);
+        (form, context, s1) == (1, under_nat, p) && is_universe(s3)
+    };
+    let lines: Vec<usize> = (0..line).filter(gives).collect();
+    match lines[..] {
+        [_] => 0,
+        [lowest, ..] if lowest == cited => 1,
+        _ => 2,
     }
 }
 
@@ -250,7 +277,8 @@ fn counted(kinds: &[&str], counts: &[u64]) -> [String; 2] {
     [done, refused].map(|some| some.join(", "))
 }
 
-/// The two tables, the sets of lines, the batches, the judgments of several lines, and the readings of rule 38.
+/// The two tables, the sets of lines, the batches, the judgments of several lines, the readings of rule 38 and the
+/// motives cited.
 impl Coverage {
     fn write_numbers(&self, f: &mut fmt::Formatter) -> fmt::Result {
         writeln!(f, "number  answers")?;
@@ -289,9 +317,14 @@ impl Coverage {
 
     fn write_rules(&self, f: &mut fmt::Formatter) -> fmt::Result {
         writeln!(f, "  rule accepted  refused")?;
-        for rule in 1..=LAST_RULE as usize {
-            let (yes, no) = (self.accepted_lines[rule], self.refused_lines[rule]);
-            writeln!(f, "{rule:>6} {yes:>8} {no:>8}")?;
+        let counts = self.accepted_lines.iter().zip(&self.refused_lines);
+        for (row, (yes, no)) in counts.enumerate().skip(1) {
+            let (rule, end) = if row > LAST_RULE as usize {
+                (row - APART, " of edition 3")
+            } else {
+                (row, "")
+            };
+            writeln!(f, "{rule:>6} {yes:>8} {no:>8}{end}")?;
         }
         let (yes, no) = (self.least_accepted(), self.least_refused());
         writeln!(f, " least {yes:>8} {no:>8}")
@@ -302,13 +335,19 @@ impl Coverage {
         write!(f, "rule 38 under A0 alone {a0}, under A1 alone {a1}, ")?;
         writeln!(f, "under A0 = A1 {both}")
     }
+
+    fn write_motives(&self, f: &mut fmt::Formatter) -> fmt::Result {
+        let motives = listed(&MOTIVES, &self.motives);
+        writeln!(f, "motives cited: {}", motives.join(", "))
+    }
 }
 
 impl fmt::Display for Coverage {
     fn fmt(&self, f: &mut fmt::Formatter) -> fmt::Result {
-        let (all, [_, first, second]) = (self.all_accepted(), self.accepted);
+        let (all, [_, first, second, third]) = (self.all_accepted(), self.accepted);
         write!(f, "inputs {}, accepted {all}: ", self.inputs)?;
-        writeln!(f, "of edition 1 {first}, of edition 2 {second}")?;
+        write!(f, "of edition 1 {first}, of edition 2 {second}, ")?;
+        writeln!(f, "of edition 3 {third}")?;
         writeln!(f, "calls compared {}", self.calls)?;
         self.write_numbers(f)?;
         self.write_sets(f)?;
@@ -316,6 +355,7 @@ impl fmt::Display for Coverage {
         self.write_repeated(f)?;
         self.write_rules(f)?;
         self.write_domains(f)?;
+        self.write_motives(f)?;
         writeln!(f, "differences {}", self.differences)
     }
 }

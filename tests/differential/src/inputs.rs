@@ -1,6 +1,6 @@
 //! The sheets that are compared: valid ones, valid ones at the limits, term tables alone, and changed ones.
 
-use crate::coverage::ByRule;
+use crate::coverage::{row, ByRule};
 use crate::generate::arrange::{after_empty, needed, reordered, repeated};
 use crate::generate::derivation::Line;
 use crate::generate::encode::{encode, Style};
@@ -46,18 +46,30 @@ impl Inputs {
 
     fn derivation(&mut self) -> Maker {
         let kind = some_kind(&mut self.random);
-        let mut maker = grow(self.random.word(), kind);
+        self.of_kind(kind)
+    }
+
+    /// A derivation of the kind. Edition 1 does not have the rules of some kinds, whose sheets are then of edition 2.
+    fn of_kind(&mut self, kind: Kind) -> Maker {
+        let edition = self.random.pick(&[1, 1, 1, 2, 3, 3]).unwrap_or(1);
+        let mut maker = grow(self.random.word(), kind, edition);
         self.unfit.append(&mut maker.d.unfit);
         maker
     }
 
-    fn style(&mut self) -> Style {
+    fn style(&mut self, edition: u16) -> Style {
         Style {
             shuffled: self.random.one_in(2),
             unused_one_in: self.random.pick(&[0, 0, 5, 20]).unwrap_or(0),
-            later_edition: self.random.one_in(4),
+            edition,
             ..Style::default()
         }
+    }
+
+    /// The sheet that states the lines, in the derivation's edition.
+    fn encoded(&mut self, maker: &mut Maker, lines: &[Line]) -> Vec<u8> {
+        let style = self.style(maker.d.edition);
+        encode(&mut maker.d.terms, lines, style, &mut self.random)
     }
 
     /// The lines that are stated: all, or what some of them rest on; reordered; some repeated, or their judgments
@@ -84,8 +96,9 @@ impl Inputs {
         }
         if self.random.one_in(3) {
             let upto = lines.len() + self.random.below(40);
-            let terms = &maker.d.terms;
-            lines = restated(terms, &lines, upto.min(MAX_LINES), &mut self.random);
+            let upto = upto.min(MAX_LINES);
+            let (terms, edition) = (&maker.d.terms, maker.d.edition);
+            lines = restated(terms, edition, &lines, upto, &mut self.random);
         }
         lines
     }
@@ -93,8 +106,7 @@ impl Inputs {
     fn valid(&mut self) -> Vec<u8> {
         let mut maker = self.derivation();
         let lines = self.arranged(&maker);
-        let style = self.style();
-        encode(&mut maker.d.terms, &lines, style, &mut self.random)
+        self.encoded(&mut maker, &lines)
     }
 
     fn terms_alone(&mut self) -> Vec<u8> {
@@ -107,8 +119,8 @@ impl Inputs {
     fn at_limits(&mut self) -> Vec<u8> {
         let mut maker = match self.random.below(4) {
             0 => successors(MAX_LINES - 2),
-            1 => grow(self.random.word(), Kind::Large),
-            2 => grow(self.random.word(), Kind::LongContext),
+            1 => self.of_kind(Kind::Large),
+            2 => self.of_kind(Kind::LongContext),
             _ => self.derivation(),
         };
         let over = self.random.below(6);
@@ -117,7 +129,7 @@ impl Inputs {
             let upto = MAX_LINES + usize::from(over == 2);
             lines = repeated(&lines, upto, &mut self.random);
         }
-        let mut style = self.style();
+        let mut style = self.style(maker.d.edition);
         if over == 0 || self.random.one_in(2) {
             style.upto_terms = MAX_TERMS + usize::from(over == 0);
         }
@@ -129,11 +141,14 @@ impl Inputs {
 
     /// A line of the rule that was refused least among those of the lines. A third of the time rules 2 to 43 go before
     /// the others, so that their lines are changed beside lines of all forms; rule 1 nearly every sheet has.
-    fn target(&mut self, lines: &[Line], refused: &ByRule) -> usize {
+    fn target(&mut self, edition: u16, lines: &[Line], refused: &ByRule) -> usize {
         let earlier_first = self.random.one_in(3);
         let order = |line: &&Line| {
             let is_earlier = (2..=last_rule(1)).contains(&line.rule);
-            (earlier_first && !is_earlier, refused[line.rule as usize])
+            (
+                earlier_first && !is_earlier,
+                refused[row(edition, line.rule)],
+            )
         };
         let least = lines.iter().min_by_key(order);
         let rule = least.map_or(1, |line| line.rule);
@@ -145,37 +160,40 @@ impl Inputs {
 
     fn with_changed_line(&mut self, refused: &ByRule) -> Vec<u8> {
         let mut maker = self.derivation();
+        let edition = maker.d.edition;
         let lines = self.arranged(&maker);
-        let number = self.target(&lines, refused);
-        let lines = change_line(&mut maker.d.terms, &lines, number, &mut self.random);
-        let style = self.style();
-        encode(&mut maker.d.terms, &lines, style, &mut self.random)
+        let number = self.target(edition, &lines, refused);
+        let terms = &mut maker.d.terms;
+        let lines = change_line(terms, edition, &lines, number, &mut self.random);
+        self.encoded(&mut maker, &lines)
     }
 
     /// What a line that is most likely no instance rests on, that line, and some others.
     fn with_non_instance(&mut self, refused: &ByRule) -> Vec<u8> {
         let mut maker = self.derivation();
-        let target = self.target(&maker.d.lines, refused);
+        let edition = maker.d.edition;
+        let target = self.target(edition, &maker.d.lines, refused);
         let rule = maker.d.lines[target].rule;
         let non_instance = maker.non_instance(rule);
         self.unfit.append(&mut maker.d.unfit);
         let mut all = maker.d.lines.clone();
         match non_instance {
             Some(line) => all.push(line),
-            None => all = change_line(&mut maker.d.terms, &all, target, &mut self.random),
+            None => {
+                let terms = &mut maker.d.terms;
+                all = change_line(terms, edition, &all, target, &mut self.random);
+            }
         }
         let goals = [all.len() - 1, target, self.random.below(all.len())];
         let lines = needed(&all, &goals);
-        let style = self.style();
-        encode(&mut maker.d.terms, &lines, style, &mut self.random)
+        self.encoded(&mut maker, &lines)
     }
 
     fn with_changed_words(&mut self, refused: &ByRule) -> Vec<u8> {
         let mut maker = self.derivation();
         let lines = self.arranged(&maker);
-        let number = self.target(&lines, refused);
-        let style = self.style();
-        let mut sheet = encode(&mut maker.d.terms, &lines, style, &mut self.random);
+        let number = self.target(maker.d.edition, &lines, refused);
+        let mut sheet = self.encoded(&mut maker, &lines);
         change_line_at(&mut sheet, number, &mut self.random);
         sheet
     }

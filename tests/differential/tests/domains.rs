@@ -1,6 +1,6 @@
-//! Rules 38 and 39 with fixed bodies: every choice of domains and contexts over three types, the first premise and the
-//! conclusion in contexts of up to one entry, the second premise of up to three, against the conditions that the papers
-//! state.
+//! Rules 38 and 39 with fixed bodies, in each edition: every choice of domains and contexts over three types, the first
+//! premise and the conclusion in contexts of up to one entry, the second premise of up to three, against the conditions
+//! that the papers state.
 
 mod common;
 
@@ -8,7 +8,7 @@ use common::is_admitted;
 use differential::generate::derivation::Line;
 use differential::generate::maker::Maker;
 use differential::reference::judgments::Judgment::Subtype;
-use differential::reference::layout::{MAX_LINES, MAX_SIZE};
+use differential::reference::layout::{LAST_EDITION, MAX_LINES, MAX_SIZE};
 use differential::reference::terms::{Context, Node, Term, EMPTY};
 
 /// The levels of the domains, which are universes; those of the bodies B0 and B1 are 3 and 4.
@@ -28,8 +28,8 @@ struct Lines {
 }
 
 impl Lines {
-    fn new() -> Lines {
-        let mut maker = Maker::new(0, MAX_LINES, MAX_SIZE);
+    fn new(edition: u16) -> Lines {
+        let mut maker = Maker::new(0, edition, MAX_LINES, MAX_SIZE);
         let domains = LEVELS.map(|level| maker.make(Node::Universe(level)));
         Lines { maker, domains }
     }
@@ -86,7 +86,11 @@ impl Lines {
 
 #[test]
 fn bodies_stand_under_the_domains_that_the_rules_name() {
-    let mut lines = Lines::new();
+    (1..=LAST_EDITION).for_each(try_every_choice);
+}
+
+fn try_every_choice(edition: u16) {
+    let mut lines = Lines::new(edition);
     let (short, long) = (lines.contexts(1), lines.contexts(3));
     let conclusions = pairs(&pairs(&short, &lines.domains), &lines.domains);
     let ordered = |&(_, (low, high)): &(Context, (u32, u32))| low <= high;

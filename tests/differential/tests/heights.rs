@@ -48,7 +48,7 @@ fn heights_are_those_of_the_samples() {
         assert_eq!(sheet.heights(), wanted, "{row}");
         lines += wanted.len();
     }
-    assert_eq!(lines, 2913);
+    assert_eq!(lines, 3184);
 }
 
 /// The judgments of the short sheets, which all stand in the empty context.

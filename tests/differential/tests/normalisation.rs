@@ -1,6 +1,6 @@
-//! Rules 44 to 67, each with every choice of premises among lines of all forms: with the conclusion that fits their
-//! terms a line is admitted exactly if the premises have the forms that the rule names. Rules without premises with a
-//! term of each tag.
+//! Rules 44 to 67, each with every choice of premises among lines of all forms, in editions 2 and 3: with the
+//! conclusion that fits their terms a line is admitted exactly if the premises have the forms that the rule names. Rules without
+//! premises with a term of each tag.
 
 mod common;
 
@@ -9,7 +9,7 @@ use differential::generate::derivation::Line;
 use differential::generate::maker::Maker;
 use differential::generate::normalisation::{conclude, conclude_redex};
 use differential::reference::judgments::Judgment::{self, Neutral, Normal, Steps};
-use differential::reference::layout::{MAX_LINES, MAX_SIZE};
+use differential::reference::layout::{LAST_EDITION, MAX_LINES, MAX_SIZE};
 use differential::reference::terms::{Node, Term, EMPTY};
 
 /// Each rule with premises, and their forms.
@@ -45,8 +45,8 @@ struct Lines {
 }
 
 impl Lines {
-    fn new() -> Lines {
-        let mut maker = Maker::new(0, MAX_LINES, MAX_SIZE);
+    fn new(edition: u16) -> Lines {
+        let mut maker = Maker::new(0, edition, MAX_LINES, MAX_SIZE);
         let [x, zero] = [Node::Variable(0), Node::Zero].map(|node| maker.make(node));
         let identity = maker.make(Node::Lambda(x));
         let redexes = [x, zero].map(|a| maker.make(Node::Application(identity, a)));
@@ -113,7 +113,11 @@ impl Lines {
 
 #[test]
 fn premises_have_the_forms_that_the_rules_name() {
-    let mut lines = Lines::new();
+    (2..=LAST_EDITION).for_each(try_every_choice);
+}
+
+fn try_every_choice(edition: u16) {
+    let mut lines = Lines::new(edition);
     for (rule, forms) in RULES {
         let mut admitted = 0;
         for premises in lines.choices(forms.len()) {
@@ -135,7 +139,7 @@ fn premises_have_the_forms_that_the_rules_name() {
 
 #[test]
 fn rules_without_premises_name_the_tag() {
-    let mut maker = Maker::new(0, MAX_LINES, MAX_SIZE);
+    let mut maker = Maker::new(0, 2, MAX_LINES, MAX_SIZE);
     let a = maker.make(Node::Variable(0));
     let leaves = [
         (49, Node::Universe(7)),

@@ -4,7 +4,7 @@ use differential::generate::encode::{encode, Style};
 use differential::generate::grow::{grow, Kind};
 use differential::generate::restate::restated;
 use differential::random::Random;
-use differential::reference::layout::MAX_LINES;
+use differential::reference::layout::{LAST_EDITION, MAX_LINES};
 use differential::reference::reading::Reading;
 use differential::reference::terms::{Node, Terms};
 
@@ -66,15 +66,17 @@ fn generated_sheets_are_accepted() {
         Kind::Mixed,
     ];
     for seed in 0..400 {
-        let mut maker = grow(seed, kinds[seed as usize % kinds.len()]);
+        let edition = 1 + (seed % u64::from(LAST_EDITION)) as u16;
+        let mut maker = grow(seed, kinds[seed as usize % kinds.len()], edition);
         assert!(maker.d.unfit.is_empty());
         let lines = maker.d.lines.clone();
         let random = &mut Random::new(seed);
         let more = MAX_LINES.min(lines.len() + 60);
-        let again = restated(&maker.d.terms, &lines, more, random);
+        let again = restated(&maker.d.terms, edition, &lines, more, random);
         let style = Style {
             shuffled: seed % 2 == 0,
             unused_one_in: 9,
+            edition,
             ..Style::default()
         };
         for lines in [lines, again] {

@@ -3,20 +3,27 @@
 use super::derivation::{stated, Derivation};
 use super::normalisation;
 use crate::reference::judgments::Judgment::{self, Equality, Subtype, Typing, WellFormed};
+use crate::reference::rules::split_motive;
 use crate::reference::terms::{Context, Node, Term, Terms};
 
 impl Derivation {
     /// Adds the conclusion that the premises determine. None: they do not have the rule's shape, or a limit is met.
     pub fn apply(&mut self, rule: u32, premises: &[usize]) -> Option<usize> {
         let stated = stated(&self.lines, premises);
-        let conclusion = conclude(&mut self.terms, rule, &stated)?;
+        let conclusion = conclude(&mut self.terms, self.edition, rule, &stated)?;
         self.add(rule, premises, conclusion)
     }
 }
 
-/// The conclusion, as far as the premises have the shape that it is taken from. Nothing that ties premises together is
-/// tested.
-pub fn conclude(terms: &mut Terms, rule: u32, p: &[Judgment]) -> Option<Judgment> {
+/// The conclusion, as far as the premises have the shape that it is taken from; nothing is taken from a motive that is
+/// cited. Nothing that ties premises together is tested.
+pub fn conclude(
+    terms: &mut Terms,
+    edition: u16,
+    rule: u32,
+    cited: &[Judgment],
+) -> Option<Judgment> {
+    let (_, p) = split_motive(edition, rule, cited);
     match rule {
         2 => Some(WellFormed(extended(terms, p)?)),
         4..=8 => conclude_function(terms, rule, p),

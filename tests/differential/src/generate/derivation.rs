@@ -29,6 +29,8 @@ struct Measure {
 pub struct Derivation {
     pub terms: Terms,
     pub lines: Vec<Line>,
+    /// The edition whose rules the lines are by.
+    pub edition: u16,
     /// No line is added beyond this many.
     pub max_lines: usize,
     /// No line with a greater term is added.
@@ -47,8 +49,9 @@ pub struct Derivation {
 }
 
 impl Derivation {
-    pub fn new(max_lines: usize, max_size: u64) -> Derivation {
+    pub fn new(edition: u16, max_lines: usize, max_size: u64) -> Derivation {
         Derivation {
+            edition,
             max_lines,
             max_size,
             ..Derivation::default()
@@ -98,7 +101,7 @@ impl Derivation {
             return None;
         }
         let stated = stated(&self.lines, premises);
-        if !instance(&mut self.terms, rule, &stated, judgment) {
+        if !instance(&mut self.terms, self.edition, rule, &stated, judgment) {
             self.unfit.push(rule);
             return None;
         }

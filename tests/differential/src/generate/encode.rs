@@ -3,7 +3,7 @@
 use super::derivation::Line;
 use crate::random::Random;
 use crate::reference::judgments::Judgment;
-use crate::reference::layout::{Counts, MAX_SIZE};
+use crate::reference::layout::{Counts, LAST_EDITION, MAX_SIZE};
 use crate::reference::rules::last_rule;
 use crate::reference::terms::{children, Context, Node, Table, Term, Terms, EMPTY};
 
@@ -18,8 +18,8 @@ pub struct Style {
     pub upto_terms: usize,
     /// Unused rows up to this many contexts.
     pub upto_contexts: usize,
-    /// Edition 2, even where edition 1 admits every rule.
-    pub later_edition: bool,
+    /// The least edition: a later one is written where it does not admit every rule.
+    pub edition: u16,
 }
 
 struct Encoder<'a> {
@@ -47,7 +47,7 @@ pub fn encode(terms: &mut Terms, lines: &[Line], style: Style, random: &mut Rand
 pub fn encode_terms(terms: &mut Terms, random: &mut Random) -> Vec<u8> {
     let all = terms.count() as Term;
     let style = Style {
-        later_edition: random.one_in(3),
+        edition: 1 + random.below(usize::from(LAST_EDITION)) as u16,
         ..Style::default()
     };
     let mut encoder = Encoder::new(terms, style, random);
@@ -228,9 +228,9 @@ impl Encoder<'_> {
     }
 
     fn bytes(&self, lines: &[Line]) -> Vec<u8> {
-        let later = self.style.later_edition || lines.iter().any(|l| l.rule > last_rule(1));
+        let later = lines.iter().any(|line| line.rule > last_rule(1));
         let counts = Counts {
-            edition: if later { 2 } else { 1 },
+            edition: self.style.edition.max(if later { 2 } else { 1 }),
             terms: self.rows.len(),
             contexts: self.contexts.len(),
             lines: lines.len(),

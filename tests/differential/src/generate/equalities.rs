@@ -27,15 +27,16 @@ impl Maker {
         let [p, a, b, c] = parts;
         let nat = self.nat();
         let h = self.under(g, nat, fuel)?;
-        let k = self.under(h, p, fuel)?;
+        let motive = self.type_line(h, p, fuel)?;
+        let k = self.extend(motive)?;
         let (zero_type, succ_type) = (self.d.terms.at_zero(p), self.d.terms.at_succ(p));
         let base = self.check(g, b, zero_type, fuel)?;
         let step = self.check(k, c, succ_type, fuel)?;
         match self.d.terms.node(a) {
-            Node::Zero => self.d.apply(33, &[base, step]),
+            Node::Zero => self.computation(33, motive, &[base, step]),
             Node::Succ(before) => {
                 let number = self.check(g, before, nat, fuel)?;
-                self.d.apply(34, &[number, base, step])
+                self.computation(34, motive, &[number, base, step])
             }
             _ => None,
         }

@@ -37,8 +37,8 @@ pub fn some_kind(random: &mut Random) -> Kind {
     }
 }
 
-/// A derivation of the kind.
-pub fn grow(seed: u64, kind: Kind) -> Maker {
+/// A derivation of the kind, by rules of the edition or of the next one that has them.
+pub fn grow(seed: u64, kind: Kind, edition: u16) -> Maker {
     let mut random = Random::new(seed);
     let max_lines = match kind {
         Kind::Tiny => 2 + random.below(12),
@@ -53,7 +53,7 @@ pub fn grow(seed: u64, kind: Kind) -> Maker {
         Kind::GreatTerms | Kind::GreatNormalisation => MAX_SIZE,
         _ => 300,
     };
-    let mut maker = Maker::new(random.word(), max_lines, max_size);
+    let mut maker = Maker::new(random.word(), edition, max_lines, max_size);
     match kind {
         Kind::LongContext => long_context(&mut maker),
         Kind::GreatTerms => great_terms(&mut maker),
@@ -185,7 +185,7 @@ fn great_redex(maker: &mut Maker, g: Context, t: usize) -> Option<()> {
 
 /// Many lines by WT-SUCC, one on the other: a deep term.
 pub fn successors(count: usize) -> Maker {
-    let mut maker = Maker::new(0, count + 2, MAX_SIZE);
+    let mut maker = Maker::new(0, 1, count + 2, MAX_SIZE);
     let nat = maker.nat();
     let zero = maker.make(Node::Zero);
     let wf = maker.d.line_of(WellFormed(EMPTY)).unwrap_or(0);

@@ -1,6 +1,7 @@
 //! Inductions with a motive that may use its variable, and the contexts in which they are rich.
 
 use super::maker::Maker;
+use crate::reference::rules::cites_motive;
 use crate::reference::terms::{Context, Node, Term};
 
 /// The lines that the rules of induction cite.
@@ -160,6 +161,28 @@ impl Maker {
         let cases = self.some_cases(g, fuel)?;
         self.d
             .apply(15, &[cases.motive, cases.number, cases.base, cases.step])
+    }
+
+    /// E-INDZERO or E-INDSUC from its printed premises, and from the motive where the edition has it cited.
+    pub fn computation(&mut self, rule: u32, motive: usize, printed: &[usize]) -> Option<usize> {
+        let mut premises = printed.to_vec();
+        if cites_motive(self.d.edition, rule) {
+            premises.insert(0, self.some_motive(motive)?);
+        }
+        self.d.apply(rule, &premises)
+    }
+
+    /// This line or any other that gives the same P a universe, most likely one of several.
+    fn some_motive(&mut self, motive: usize) -> Option<usize> {
+        let (h, p, _) = self.d.judgment(motive).typing()?;
+        if self.random.below(3) > 0 {
+            let level = self.level(motive)? + 1 + self.random.below(2) as u32;
+            self.raised(motive, level);
+        }
+        if self.random.one_in(4) {
+            return Some(motive);
+        }
+        self.some(&self.type_lines(h, p))
     }
 
     /// E-IND from the cases of an induction, each equated with itself or with another term.

@@ -40,10 +40,15 @@ impl Maker {
         }
     }
 
+    /// The lines A : U_i for the given type.
+    pub fn type_lines(&self, g: Context, a: Term) -> Vec<usize> {
+        let known = self.d.lines_of_subject(g, a).iter().copied();
+        known.filter(|&line| self.level(line).is_some()).collect()
+    }
+
     /// A line A : U_i for the given type.
     pub fn type_line(&mut self, g: Context, a: Term, fuel: u32) -> Option<usize> {
-        let known = self.d.lines_of_subject(g, a).to_vec();
-        if let Some(&line) = known.iter().find(|&&line| self.level(line).is_some()) {
+        if let Some(&line) = self.type_lines(g, a).first() {
             return Some(line);
         }
         let line = self.infer(g, a, fuel)?;

@@ -68,8 +68,8 @@ pub struct Maker {
 }
 
 impl Maker {
-    pub fn new(seed: u64, max_lines: usize, max_size: u64) -> Maker {
-        let mut d = Derivation::new(max_lines, max_size);
+    pub fn new(seed: u64, edition: u16, max_lines: usize, max_size: u64) -> Maker {
+        let mut d = Derivation::new(edition, max_lines, max_size);
         d.add(1, &[], WellFormed(EMPTY));
         Maker {
             d,

@@ -1,13 +1,13 @@
 //! Lines that most likely fail a rule, and only by what ties its premises together: some premises stand in a longer
-//! context, or at an equal type, or the bodies of L-PI or L-SIG stand under other entries. Those of rules 44 to 67 fail
-//! only by the forms of the premises.
+//! context, or at an equal type, or the bodies of L-PI or L-SIG stand under other entries, or what is cited for a
+//! motive is not. Those of rules 44 to 67 fail only by the forms of the premises.
 
 use super::conclusions::conclude;
 use super::derivation::{stated, Line};
 use super::maker::Maker;
 use super::normalisation::{conclude_redex, uncited_part};
 use crate::reference::judgments::Judgment;
-use crate::reference::rules::instance;
+use crate::reference::rules::{cites_motive, instance};
 use crate::reference::terms::{Context, Term, EMPTY};
 
 impl Maker {
@@ -30,7 +30,11 @@ impl Maker {
 
     fn non_instance_of(&mut self, line: usize) -> Option<Line> {
         let old = self.d.lines[line].clone();
+        let edition = self.d.edition;
         let premises = match old.rule {
+            rule if cites_motive(edition, rule) && self.random.one_in(2) => {
+                self.with_other_motive(&old)?
+            }
             38 | 39 if self.random.below(3) > 0 => self.with_misplaced_bodies(&old)?,
             44..=67 => self.with_other_forms(&old)?,
             _ => self.with_changed_premises(&old)?,
@@ -42,7 +46,7 @@ impl Maker {
         }
         // One in four is kept untested, as by `change_line`.
         let untested = self.random.one_in(4) && premises != old.premises;
-        if !untested && instance(&mut self.d.terms, old.rule, &stated, judgment) {
+        if !untested && instance(&mut self.d.terms, edition, old.rule, &stated, judgment) {
             return None;
         }
         Some(Line {
@@ -54,13 +58,13 @@ impl Maker {
 
     /// What the rule concludes from the new premises, as far as they determine it.
     fn conclusion(&mut self, old: &Line, stated: &[Judgment]) -> Judgment {
-        let terms = &mut self.d.terms;
+        let (terms, edition) = (&mut self.d.terms, self.d.edition);
         let subjects = stated.first().map_or(vec![], |premise| premise.subjects());
         let uncited = uncited_part(terms, old.rule, old.judgment);
         if let (Some(any), Some(&cited)) = (uncited, subjects.first()) {
             return conclude_redex(terms, old.rule, cited, any);
         }
-        conclude(terms, old.rule, stated).unwrap_or(old.judgment)
+        conclude(terms, edition, old.rule, stated).unwrap_or(old.judgment)
     }
 
     /// Some premises in a longer context, or at an equal type.
@@ -78,6 +82,31 @@ impl Maker {
             };
             premises[place] = changed.unwrap_or(premises[place]);
         }
+        Some(premises)
+    }
+
+    /// Another line for the motive: P in G, in G,Nat,P, in G,U_0 or in any context, another type in G,Nat, or P at a
+    /// type that is only equal to a universe.
+    fn with_other_motive(&mut self, old: &Line) -> Option<Vec<usize>> {
+        let mut premises = old.premises.clone();
+        let motive = premises[0];
+        let (h, p, _) = self.d.judgment(motive).typing()?;
+        let g = old.judgment.context();
+        let context = match self.random.below(6) {
+            0 => Some(g),
+            1 => self.extend(motive),
+            2 => {
+                let entry = self.universe_in(g, 0)?;
+                self.extend(entry)
+            }
+            3 => Some(self.some_context()),
+            _ => None,
+        };
+        premises[0] = match context {
+            Some(context) => self.type_line(context, p, 6)?,
+            None if self.random.one_in(2) => self.some_type(h, 2)?,
+            None => self.at_redex_type(motive)?,
+        };
         Some(premises)
     }
 
@@ -146,7 +175,7 @@ impl Maker {
     }
 
     /// The same term or equality at (lambda T) zero instead of T.
-    fn at_redex_type(&mut self, line: usize) -> Option<usize> {
+    pub fn at_redex_type(&mut self, line: usize) -> Option<usize> {
         let judgment = self.d.judgment(line);
         let rule = match judgment {
             Judgment::Typing(..) => 16,

@@ -4,12 +4,20 @@
 use super::derivation::Line;
 use crate::random::Random;
 use crate::reference::judgments::Judgment::{self, Equality, Subtype, Typing, WellFormed};
+use crate::reference::rules::cites_motive;
 use crate::reference::terms::{Context, Table, Term, Terms};
 
-/// The lines with some judgments stated again behind them, up to a count.
-pub fn restated(terms: &Terms, lines: &[Line], upto: usize, random: &mut Random) -> Vec<Line> {
+/// The lines with some judgments stated again behind them by rules of the edition, up to a count.
+pub fn restated(
+    terms: &Terms,
+    edition: u16,
+    lines: &[Line],
+    upto: usize,
+    random: &mut Random,
+) -> Vec<Line> {
     let mut restating = Restating {
         terms,
+        edition,
         random,
         lines: Vec::new(),
         numbers: Table::default(),
@@ -26,6 +34,7 @@ pub fn restated(terms: &Terms, lines: &[Line], upto: usize, random: &mut Random)
 
 struct Restating<'a> {
     terms: &'a Terms,
+    edition: u16,
     random: &'a mut Random,
     lines: Vec<Line>,
     /// The lines that state a judgment.
@@ -57,15 +66,30 @@ impl Restating<'_> {
         }
     }
 
-    /// By the same rule, from any lines that state the premises.
+    /// By the same rule, from any lines that state the premises, or a motive at any level.
     fn by_other_lines(&mut self, number: usize) {
         let line = self.lines[number].clone();
         let mut premises = line.premises;
-        for premise in &mut premises {
-            let stated = self.lines[*premise].judgment;
-            *premise = self.some(stated).unwrap_or(*premise);
+        for (place, premise) in premises.iter_mut().enumerate() {
+            let other = match self.lines[*premise].judgment {
+                Typing(h, p, _) if place == 0 && cites_motive(self.edition, line.rule) => {
+                    self.some_typing(h, p)
+                }
+                stated => self.some(stated),
+            };
+            *premise = other.unwrap_or(*premise);
         }
         self.push(line.rule, &premises, line.judgment);
+    }
+
+    /// Any of the lines that give a type a universe.
+    fn some_typing(&mut self, g: Context, t: Term) -> Option<usize> {
+        let gives = |&line: &usize| match self.lines[line].judgment {
+            Typing(h, a, u) => (h, a) == (g, t) && self.terms.universe(u).is_some(),
+            _ => false,
+        };
+        let lines: Vec<usize> = (0..self.lines.len()).filter(gives).collect();
+        self.random.pick(&lines)
     }
 
     /// From the line itself: by E-SYM twice, or by its own type or right side, which is a subtype of itself. None if
@@ -96,12 +120,8 @@ impl Restating<'_> {
             let wf = self.some(WellFormed(g))?;
             return Some(self.push(37, &[wf], same));
         }
-        let universe = |line: &Line| match line.judgment {
-            Typing(h, a, u) if (h, a) == (g, t) => self.terms.universe(u).map(|_| u),
-            _ => None,
-        };
-        let u = self.lines.iter().find_map(universe)?;
-        let typed = self.some(Typing(g, t, u))?;
+        let typed = self.some_typing(g, t)?;
+        let (_, _, u) = self.lines[typed].judgment.typing()?;
         let equal = self.push(17, &[typed], Equality(g, t, t, u));
         Some(self.push(36, &[equal], same))
     }

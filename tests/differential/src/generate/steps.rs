@@ -243,11 +243,12 @@ impl Maker {
             31 | 32 => self.pair_step(rule, g, fuel),
             33 => {
                 let cases = self.some_cases(g, fuel)?;
-                self.d.apply(33, &[cases.base, cases.step])
+                self.computation(33, cases.motive, &[cases.base, cases.step])
             }
             _ => {
                 let cases = self.some_cases(g, fuel)?;
-                self.d.apply(34, &[cases.number, cases.base, cases.step])
+                let printed = [cases.number, cases.base, cases.step];
+                self.computation(34, cases.motive, &printed)
             }
         }
     }

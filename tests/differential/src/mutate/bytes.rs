@@ -31,7 +31,7 @@ pub fn change_bytes(sheet: &[u8], random: &mut Random) -> Vec<u8> {
         11 | 14 => new = with_great_term(sheet, counts, random),
         12 => fill_unused(&mut new, counts, random),
         13 => new = one_term_more(sheet, counts, random),
-        15 | 16 => change_edition(&mut new, random),
+        15..=17 => change_edition(&mut new, random),
         _ => change_line_word(&mut new, counts, random),
     }
     new
@@ -78,7 +78,7 @@ fn change_trailer(sheet: &mut [u8], random: &mut Random) {
 
 /// Another edition, defined or not.
 fn change_edition(sheet: &mut [u8], random: &mut Random) {
-    let edition = random.pick(&[0, 1, 1, 2, 2, 3, 0x0101, 0x0200]);
+    let edition = random.pick(&[0, 1, 1, 2, 2, 3, 3, 4, 0x0101, 0x0300]);
     let at = sheet.len() - TRAILER + 6;
     set_word(sheet, at, edition.unwrap_or(0));
 }

@@ -4,7 +4,7 @@ use crate::random::Random;
 use crate::reference::judgments::Judgment::{self, Equality, Subtype, Typing};
 use crate::reference::terms::{Node, Term, Terms};
 
-/// A line whose rule is misread: its premises and its true conclusion.
+/// A line whose rule is misread: its premises as printed and its true conclusion.
 pub struct Misreading<'a> {
     pub terms: &'a mut Terms,
     pub random: &'a mut Random,

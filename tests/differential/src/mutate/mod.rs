@@ -4,5 +4,6 @@ pub mod bytes;
 pub mod lines;
 mod misread;
 mod misread_normalisation;
+mod motives;
 mod perturb;
 mod premises;

@@ -29,6 +29,7 @@ const LIKENESSES: [Likeness; 5] = [
 /// The line with one premise, rarely two, changed and its conclusion taken from the premises.
 pub fn change_premise(
     terms: &mut Terms,
+    edition: u16,
     lines: &[Line],
     number: usize,
     random: &mut Random,
@@ -48,7 +49,7 @@ pub fn change_premise(
     }
     let stated = stated(lines, &line.premises);
     let old = line.judgment;
-    line.judgment = conclude(terms, line.rule, &stated)
+    line.judgment = conclude(terms, edition, line.rule, &stated)
         .map(|new| in_some_context(terms, new, &stated, random))
         .unwrap_or_else(|| moved(old, &stated, random));
     line
@@ -59,14 +60,19 @@ fn keeps_conclusion(rule: u32, random: &mut Random) -> bool {
     rule > last_rule(1) && rule != 53 && random.below(8) > 0
 }
 
-/// The line with a line of another form, any of them, for one of its premises: as like the old one as can be.
+/// The line with a line of another form for one of its premises.
 pub fn change_premise_form(lines: &[Line], number: usize, random: &mut Random) -> Line {
     let mut line = lines[number].clone();
-    if line.premises.is_empty() {
-        return line;
-    }
     let place = random.below(line.premises.len());
-    let cited = lines[line.premises[place]].judgment;
+    if let Some(premise) = line.premises.get_mut(place) {
+        *premise = line_of_other_form(lines, number, *premise, random);
+    }
+    line
+}
+
+/// An earlier line of another form, any of them, as like the old one as can be found.
+pub fn line_of_other_form(lines: &[Line], number: usize, old: usize, random: &mut Random) -> usize {
+    let cited = lines[old].judgment;
     let likeness = |&l: &usize| {
         let other = lines[l].judgment;
         let same_context = other.context() == cited.context();
@@ -80,11 +86,10 @@ pub fn change_premise_form(lines: &[Line], number: usize, random: &mut Random) -
     let form = random.pick(&forms);
     let start = random.below(number);
     let others = (start..number).chain(0..start);
-    line.premises[place] = others
+    others
         .filter(|&l| form.is_some_and(|form| has(form, &lines[l])))
         .max_by_key(likeness)
-        .unwrap_or(line.premises[place]);
-    line
+        .unwrap_or(old)
 }
 
 /// The conclusion, a third of the time in the context of any premise.

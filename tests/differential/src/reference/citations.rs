@@ -7,7 +7,8 @@ use super::rules::premise_count;
 pub fn premise_places(sheet: &[u8], counts: Counts, line: usize) -> Vec<usize> {
     let at = counts.line_at(line);
     let rule = u32::from(word(sheet, at + 2));
-    (0..premise_count(rule)).map(|i| at + 12 + 2 * i).collect()
+    let count = premise_count(counts.edition, rule);
+    (0..count).map(|i| at + 12 + 2 * i).collect()
 }
 
 /// The lines that a line cites.

@@ -178,6 +178,18 @@ fn cases(terms: &mut Terms, p: &[Judgment]) -> Option<(Context, Term, Term, Term
     fits.then_some((g, motive, b, step))
 }
 
+/// Whether the premise is G,Nat |- P : U_i, where the conclusion equates ind(P, ..) with another term in G.
+pub fn is_motive(terms: &mut Terms, premise: Judgment, c: Judgment) -> Option<bool> {
+    let (under_nat, motive, u) = premise.typing()?;
+    let (g, redex, ..) = c.equality()?;
+    let Node::Ind(p, ..) = terms.node(redex) else {
+        return None;
+    };
+    terms.universe(u)?;
+    let nat = terms.make(Node::Nat);
+    Some(under_nat == terms.extend(g, nat) && motive == p)
+}
+
 fn e_indzero(terms: &mut Terms, p: &[Judgment], c: Judgment) -> Option<bool> {
     let (g, motive, b, step) = cases(terms, p)?;
     let zero = terms.make(Node::Zero);

@@ -11,7 +11,7 @@ pub const TRAILER: usize = 16;
 pub const TERM_ROW: usize = 10;
 pub const CONTEXT_ROW: usize = 4;
 pub const LINE_ROW: usize = 20;
-pub const LAST_EDITION: u16 = 2;
+pub const LAST_EDITION: u16 = 3;
 pub const MARK: u16 = 0x4C44;
 
 /// The 16-bit word whose low byte stands at `at`.

@@ -1,7 +1,8 @@
 //! A second implementation of document 01, written from the papers: plain trees, real shift and substitution, and each
 //! rule by building what it concludes. Of document 02, A1: the calendar, walked day by day; A2: normal terms, by the
 //! clauses as printed; A3: rule 38 under either domain; A5: the rules of section 4 of source document 000; A6: sets of
-//! lines, by single withdrawals; A7: batches, by single searches; A8: heights, line by line.
+//! lines, by single withdrawals; A7: batches, by single searches; A8: heights, line by line; A10: the motive as one
+//! more premise in front of the printed ones.
 
 pub mod calls;
 pub mod citations;

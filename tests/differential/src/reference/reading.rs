@@ -185,9 +185,9 @@ impl Tables<'_> {
     fn read_line(&mut self, number: usize) -> Result<(), usize> {
         let row: [u16; 10] = self.words(self.counts.line_at(number));
         let conclusion = self.judgment(row).ok_or(9usize)?;
-        let rule = u32::from(row[1]);
+        let (edition, rule) = (self.counts.edition, u32::from(row[1]));
         let premises = self.premises(row, number).ok_or(9usize)?;
-        if !instance(&mut self.terms, rule, &premises, conclusion) {
+        if !instance(&mut self.terms, edition, rule, &premises, conclusion) {
             return Err(10);
         }
         self.lines.push(conclusion);
@@ -240,7 +240,7 @@ impl Tables<'_> {
 
     /// What the cited lines state: each must be earlier, and the fields behind them 0.
     fn premises(&self, row: [u16; 10], number: usize) -> Option<Vec<Judgment>> {
-        let count = premise_count(u32::from(row[1]));
+        let count = premise_count(self.counts.edition, u32::from(row[1]));
         let (used, unused) = row[6..].split_at(count);
         if unused.iter().any(|&word| word != 0) {
             return None;

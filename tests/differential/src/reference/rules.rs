@@ -1,5 +1,6 @@
-//! The 67 rules between plain judgments, numbered as printed.
+//! The 67 rules between plain judgments, numbered as printed, in the editions that admit them.
 
+pub use super::equality::is_motive;
 use super::judgments::Judgment;
 use super::terms::Terms;
 use super::{contexts, equality, normalisation, subtyping, typing};
@@ -29,8 +30,22 @@ pub fn conclusion_form(rule: u32) -> Option<u32> {
     }
 }
 
+/// Whether a rule takes the motive, G,Nat |- P : U_i, as one more premise in front of the printed ones (02, A10).
+pub fn cites_motive(edition: u16, rule: u32) -> bool {
+    edition == 3 && matches!(rule, 33 | 34)
+}
+
+/// What a line cites for the motive, if its rule takes one, and for the premises as printed.
+pub fn split_motive<T>(edition: u16, rule: u32, cited: &[T]) -> (&[T], &[T]) {
+    cited.split_at(usize::from(cites_motive(edition, rule)))
+}
+
 /// The number of premises that a rule cites.
-pub fn premise_count(rule: u32) -> usize {
+pub fn premise_count(edition: u16, rule: u32) -> usize {
+    printed_count(rule) + usize::from(cites_motive(edition, rule))
+}
+
+fn printed_count(rule: u32) -> usize {
     match rule {
         1 | 49 | 51 | 52 | 54 => 0,
         15 | 28 | 58 | 66 | 67 => 4,
@@ -41,8 +56,9 @@ pub fn premise_count(rule: u32) -> usize {
     }
 }
 
-/// Whether the conclusion follows from the premises by the rule.
-pub fn instance(terms: &mut Terms, rule: u32, p: &[Judgment], c: Judgment) -> bool {
+/// Whether the conclusion follows from the premises by the rule of the edition.
+pub fn instance(terms: &mut Terms, edition: u16, rule: u32, p: &[Judgment], c: Judgment) -> bool {
+    let (motive, p) = split_motive(edition, rule, p);
     let follows = match rule {
         1..=2 => contexts::follows(terms, rule, p, c),
         3..=16 => typing::follows(terms, rule, p, c),
@@ -51,5 +67,6 @@ pub fn instance(terms: &mut Terms, rule: u32, p: &[Judgment], c: Judgment) -> bo
         44..=67 => normalisation::follows(terms, rule, p, c),
         _ => None,
     };
-    follows == Some(true)
+    let mut motive = motive.iter();
+    follows == Some(true) && motive.all(|&premise| is_motive(terms, premise, c) == Some(true))
 }

@@ -27,12 +27,13 @@ fn entries(folder: &Path) -> impl Iterator<Item = PathBuf> {
     entries.map(|entry| entry.expect("an entry").path())
 }
 
-/// The sheets of the bundle, which stand one behind the other, with the lines of its list: name and length.
-pub fn bundled() -> Vec<(String, Vec<u8>)> {
-    let bundle = sheet("normalisation.sheets");
+/// The sheets of a bundle, which stand one behind the other, with the lines of its list: name, length and until when
+/// the answer holds, if it is to change.
+fn bundle(name: &str) -> Vec<(String, Vec<u8>)> {
+    let bundle = sheet(&format!("{name}.sheets"));
     let mut left = &bundle[..];
     let mut sheets = Vec::new();
-    for row in rows("normalisation.list") {
+    for row in rows(&format!("{name}.list")) {
         let (sheet, behind) = left.split_at(row[1].parse().expect("a length"));
         sheets.push((row.join(" "), sheet.to_vec()));
         left = behind;
@@ -41,7 +42,12 @@ pub fn bundled() -> Vec<(String, Vec<u8>)> {
     sheets
 }
 
-/// All sample sheets, those in folders of their own and in the bundle among them, with their paths.
+/// The sheets of all bundles.
+pub fn bundled() -> Vec<(String, Vec<u8>)> {
+    ["normalisation", "motives"].map(bundle).concat()
+}
+
+/// All sample sheets, those in folders of their own and in bundles among them, with their paths.
 pub fn sheets() -> Vec<(PathBuf, Vec<u8>)> {
     let data = folder().join("data");
     let inner = entries(&data).filter(|path| path.is_dir());

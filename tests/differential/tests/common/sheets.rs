@@ -4,7 +4,7 @@ use differential::compare::{on_both, Buffers, Call, Outcome};
 use differential::generate::encode::{encode, Style};
 use differential::generate::grow::{grow, Kind};
 use differential::random::Random;
-use differential::reference::layout::Counts;
+use differential::reference::layout::{Counts, LAST_EDITION};
 use differential::reference::reading::Reading;
 use std::fs;
 use std::path::PathBuf;
@@ -44,13 +44,18 @@ impl Sheet {
     }
 }
 
-/// Sheets of at most nine lines, from fixed seeds.
+/// Sheets of at most nine lines, from fixed seeds, of the editions in turn.
 pub fn small() -> impl Iterator<Item = Sheet> {
     let sheet = |seed| {
-        let mut maker = grow(seed, Kind::Tiny);
+        let edition = 1 + (seed % u64::from(LAST_EDITION)) as u16;
+        let mut maker = grow(seed, Kind::Tiny, edition);
         let lines = maker.d.lines.clone();
+        let style = Style {
+            edition,
+            ..Style::default()
+        };
         let random = &mut Random::new(seed);
-        Sheet::new(encode(&mut maker.d.terms, &lines, Style::default(), random))
+        Sheet::new(encode(&mut maker.d.terms, &lines, style, random))
     };
     (0..120)
         .map(sheet)

@@ -1,6 +1,7 @@
 -- What the table asks of every rule first; then the form leads to the group that decides.
 -- Assumes nothing.
 use mathlib.Core.Path.{_≡_, _∙_, sym}
+use mathlib.Core.Logic.{⊎-elim}
 use Prim.Native.Nat.{ℕ, _<_}
 use native.Mathlib.Omega.{arith}
 use Rattle.rules.proofs.TableLaws.{range-0, range-1, range-2, range-3, range-4, range-5, range-6, form-small}
@@ -18,7 +19,9 @@ last-form f rule known e none =
 
 shaped-requires : tie.Need-shaped-requires
 shaped-requires c κs =
-    let given = c .before .before .pre in (given .0, (given .1 .known, shaped-given (given .1)))
+    let given = c .before .before .pre in
+    let line = given .1 .0 in
+    (given .0, (line .known, shaped-given line))
 
 conclusion-form-requires : tie.Need-conclusion-form-requires
 conclusion-form-requires c κs = search needs
@@ -26,49 +29,50 @@ conclusion-form-requires c κs = search needs
 wellformed-instance-requires : tie.Need-wellformed-instance-requires
 wellformed-instance-requires c κs =
     let c3 = c .before .before .before in
-    let line = c3 .before .before .before .pre .1 in
+    let line = c3 .before .before .before .pre .1 .0 in
     let range = range-0 _ (line .known) .0 (sym (c .before .conclusion-form .ensures) ∙ c .match .keys1) in
     (line, (c3 .shaped .ensures .0 (c .before .before .if1 .taken), range))
 
 typing-instance-requires : tie.Need-typing-instance-requires
 typing-instance-requires c κs =
     let c3 = c .before .before .before in
-    let line = c3 .before .before .before .pre .1 in
+    let line = c3 .before .before .before .pre .1 .0 in
     let range = range-1 _ (line .known) .0 (sym (c .before .conclusion-form .ensures) ∙ c .match .keys2) in
     (line, (c3 .shaped .ensures .0 (c .before .before .if1 .taken), range))
 
 equality-instance-requires : tie.Need-equality-instance-requires
 equality-instance-requires c κs =
     let c3 = c .before .before .before in
-    let line = c3 .before .before .before .pre .1 in
-    let range = range-2 _ (line .known) .0 (sym (c .before .conclusion-form .ensures) ∙ c .match .keys3) in
+    let line = c3 .before .before .before .pre .1 .0 in
+    let ranges = range-2 _ (line .known) .0 (sym (c .before .conclusion-form .ensures) ∙ c .match .keys3) in
+    let range = ⊎-elim (λ h. h) (λ h. absurd (omega (arith, h, c3 .before .before .before .pre .1 .1))) ranges in
     (line, (c3 .shaped .ensures .0 (c .before .before .if1 .taken), range))
 
 subtyping-instance-requires : tie.Need-subtyping-instance-requires
 subtyping-instance-requires c κs =
     let c3 = c .before .before .before in
-    let line = c3 .before .before .before .pre .1 in
+    let line = c3 .before .before .before .pre .1 .0 in
     let range = range-3 _ (line .known) .0 (sym (c .before .conclusion-form .ensures) ∙ c .match .keys4) in
     (line, (c3 .shaped .ensures .0 (c .before .before .if1 .taken), range))
 
 normal-instance-requires : tie.Need-normal-instance-requires
 normal-instance-requires c κs =
     let c3 = c .before .before .before in
-    let line = c3 .before .before .before .pre .1 in
+    let line = c3 .before .before .before .pre .1 .0 in
     let range = range-4 _ (line .known) .0 (sym (c .before .conclusion-form .ensures) ∙ c .match .keys5) in
     (given-empty (line, (c3 .shaped .ensures .0 (c .before .before .if1 .taken), range)), range)
 
 neutral-instance-requires : tie.Need-neutral-instance-requires
 neutral-instance-requires c κs =
     let c3 = c .before .before .before in
-    let line = c3 .before .before .before .pre .1 in
+    let line = c3 .before .before .before .pre .1 .0 in
     let range = range-5 _ (line .known) .0 (sym (c .before .conclusion-form .ensures) ∙ c .match .keys6) in
     (given-empty (line, (c3 .shaped .ensures .0 (c .before .before .if1 .taken), range)), range)
 
 step-instance-requires : tie.Need-step-instance-requires
 step-instance-requires c κs =
     let c3 = c .before .before .before in
-    let line = c3 .before .before .before .pre .1 in
+    let line = c3 .before .before .before .pre .1 .0 in
     let form = last-form _ _ (line .known) (c .before .conclusion-form .ensures) (c .match .rest) in
     let range = range-6 _ (line .known) .0 form in
     (given-empty (line, (c3 .shaped .ensures .0 (c .before .before .if1 .taken), range)), range)
@@ -88,7 +92,7 @@ returns-4 c = search needs
 returns-5 : tie.Need-returns-5
 returns-5 c =
     let c4 = c .before .before .before .before in
-    let line = c4 .before .before .before .pre .1 in
+    let line = c4 .before .before .before .pre .1 .0 in
     let form = sym (c .before .before .conclusion-form .ensures) ∙ c .before .match .keys5 in
     by-group (line, (c4 .shaped .ensures .0 (c .before .before .before .if1 .taken), form)) (omega (arith, form))
     (c .normal-instance .ensures)
@@ -96,7 +100,7 @@ returns-5 c =
 returns-6 : tie.Need-returns-6
 returns-6 c =
     let c4 = c .before .before .before .before in
-    let line = c4 .before .before .before .pre .1 in
+    let line = c4 .before .before .before .pre .1 .0 in
     let form = sym (c .before .before .conclusion-form .ensures) ∙ c .before .match .keys6 in
     by-group (line, (c4 .shaped .ensures .0 (c .before .before .before .if1 .taken), form)) (omega (arith, form))
     (c .neutral-instance .ensures)
@@ -104,13 +108,13 @@ returns-6 c =
 returns-7 : tie.Need-returns-7
 returns-7 c =
     let c4 = c .before .before .before .before in
-    let line = c4 .before .before .before .pre .1 in
+    let line = c4 .before .before .before .pre .1 .0 in
     let form = last-form _ _ (line .known) (c .before .before .conclusion-form .ensures) (c .before .match .rest) in
     by-group (line, (c4 .shaped .ensures .0 (c .before .before .before .if1 .taken), form)) (omega (arith, form))
     (c .step-instance .ensures)
 
 returns-8 : tie.Need-returns-8
-returns-8 c = wrong-shape (c .before .before .before .before .pre .1) (c .before .shaped .ensures) (c .if1 .left)
+returns-8 c = wrong-shape (c .before .before .before .before .pre .1 .0) (c .before .shaped .ensures) (c .if1 .left)
 
 pub is-instance-spec : {M : Type 1} → statement M
 is-instance-spec =

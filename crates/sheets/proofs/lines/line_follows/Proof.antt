@@ -1,15 +1,30 @@
 -- The lines that the premise words name are there and in range, so crate rules decides.
 -- Assumes nothing.
 use mathlib.Core.Path.{refl, _∙_, ap}
-use Prim.Native.Nat.{_+_, _*_}
+use mathlib.Core.Bool.{Bool}
+use mathlib.Core.List.{List, [], _∷_}
+use Prim.Native.Nat.{ℕ, _+_, _-_, _*_}
+use lib.ListN.{length, take, drop}
+use Rattle.terms.specs.Decides.{Decides}
+use Rattle.terms.proofs.Tests.{refuted}
+use Rattle.rules.specs.Stated.{Follows}
+use Rattle.rules.specs.RuleChecks.{LineInTables}
+use Rattle.rules.specs.declared.judgments.LineJudgment.{LineJudgment}
 use Rattle.sheets.specs.Layout.{contextsIn, linesIn}
-use Rattle.sheets.specs.Lines.{judgmentOf, premisesOf}
+use Rattle.sheets.specs.Lines.{judgmentOf, premisesOf, LineFollows}
 use Rattle.sheets.proofs.BufferLaws.{part-to-end}
 use Rattle.sheets.proofs.LineAnswers.{named-whole, line-in-tables, line-decided}
 use borrow.Author.Needs.{needs}
 use native.Mathlib.Omega.{arith}
 use Rattle.sheets.proofs.lines.line_follows.Statement.{statement}
 use Rattle.sheets.proofs.lines.line_follows.Tie as tie
+use Rattle.sheets.proofs.lines.line_follows.Reads as reads
+use Rattle.sheets.proofs.lines.line_follows.Lts as lts
+use Rattle.sheets.proofs.lines.read_line.Reads as read-line-reads
+use Rattle.sheets.proofs.lines.judgment_of.Reads as judgment-of-reads
+use Rattle.rules.proofs.table.cites_motive.Reads as cites-motive-reads
+use Rattle.rules.proofs.instances.is_cited_instance.Reads as is-cited-instance-reads
+use Rattle.rules.proofs.instances.is_instance.Reads as is-instance-reads
 
 mul-after-terms : tie.Need-mul-after-terms
 mul-after-terms c = search needs
@@ -84,9 +99,45 @@ judgment-of-requires-4 c κs = search needs
 judgment-of-requires-5 : tie.Need-judgment-of-requires-5
 judgment-of-requires-5 c κs = search needs
 
-is-instance-requires : tie.Need-is-instance-requires
+cites-motive-requires : tie.Need-cites-motive-requires
+cites-motive-requires c κs = search needs
+
+abbrev calls : lts.Claims
+calls = (
+  read-line-reads.Asked,
+  read-line-reads.Learnt,
+  judgment-of-reads.Asked,
+  judgment-of-reads.Learnt,
+  cites-motive-reads.Asked,
+  cites-motive-reads.Learnt,
+  is-cited-instance-reads.Asked,
+  is-cited-instance-reads.Learnt,
+  is-instance-reads.Asked,
+  is-instance-reads.Learnt,
+)
+
+-- the line with the judgments that were read keeps the layout of the tables, and what decides it there decides the line
+abbrev Told : List ℕ → List ℕ → ℕ → ℕ → ℕ → ℕ → List LineJudgment → LineJudgment → Type 0
+Told sheet contexts T C n rule premises c =
+    LineInTables sheet contexts rule premises c
+    × ((b : Bool) → Decides b (Follows sheet contexts rule premises c) → Decides b (LineFollows sheet T C n))
+
+told : (c : lts.After-judgment-of5 calls reads.Pre reads.Post)
+    → let start = c .before .before .before .before .before .before .before .before .before .before .before .before .args in
+    let bytes = start .sheet .now in
+    let after = 10 * start .terms in
+    Told bytes (take (length bytes - after) (drop after bytes)) (start .terms) (start .contexts) (start .n)
+    (start .line .rule)
+    (
+    c .before .before .before .before .before .before .before .judgment-of .result
+    ∷ c .before .before .before .before .before .judgment-of2 .result
+    ∷ c .before .before .before .judgment-of3 .result
+    ∷ c .before .judgment-of4 .result
+    ∷ []
+    )
+    (c .judgment-of5 .result)
 unfolding contextsIn linesIn
-is-instance-requires c κs =
+told c =
     let c3 = c .before .before .before in
     let c6 = c3 .before .before .before in
     let start = c6 .before .before .before .before .before .before in
@@ -94,35 +145,35 @@ is-instance-requires c κs =
     let bytes = start .args .sheet .now in
     let terms = start .args .terms in
     let own = start .pre .1 .0 in
-    let table = start .pre .0 in (
-      table,
-      line-in-tables _ _ _ _ (start .args .line) (rows .0) (rows .1) (rows .2) own _ _ (part-to-end bytes (10 * terms))
-          (part-to-end bytes (10 * terms + 4 * start .args .contexts)) _ _ _ _ _
-          (c6 .before .judgment-of .ensures ∙ ap judgmentOf (c6 .before .before .read-line .ensures))
-          (c3 .before .before .judgment-of2 .ensures ∙ ap judgmentOf (c6 .read-line2 .ensures))
-          (c3 .judgment-of3 .ensures ∙ ap judgmentOf (c3 .before .read-line3 .ensures))
-          (c .before .judgment-of4 .ensures ∙ ap judgmentOf (c .before .before .read-line4 .ensures))
-          (c .judgment-of5 .ensures),
+    let context-rows = part-to-end bytes (10 * terms) in
+    let lines = part-to-end bytes (10 * terms + 4 * start .args .contexts) in
+    let p = c6 .before .judgment-of .ensures ∙ ap judgmentOf (c6 .before .before .read-line .ensures) in
+    let q = c3 .before .before .judgment-of2 .ensures ∙ ap judgmentOf (c6 .read-line2 .ensures) in
+    let r = c3 .judgment-of3 .ensures ∙ ap judgmentOf (c3 .before .read-line3 .ensures) in
+    let s = c .before .judgment-of4 .ensures ∙ ap judgmentOf (c .before .before .read-line4 .ensures) in (
+      line-in-tables _ _ _ _ (start .args .line) (rows .0) (rows .1) (rows .2) own _ _ context-rows lines _ _ _ _ _
+          p q r s (c .judgment-of5 .ensures),
+      line-decided _ _ _ _ (start .args .line) (rows .0) (rows .1) (rows .2) own _ _ context-rows lines _ _ _ _ _
+          p q r s (c .judgment-of5 .ensures),
     )
 
+is-cited-instance-requires : tie.Need-is-cited-instance-requires
+is-cited-instance-requires c κs =
+    let start = c .before .before .before .before .before .before .before .before .before .before .before .before in
+    let behind = c .before .cites-motive .ensures .0 (c .if1 .taken) in
+    (start .before .before .pre .0, (told (c .before .before) .0, behind))
+
+is-instance-requires : tie.Need-is-instance-requires
+is-instance-requires c κs =
+    let start = c .before .before .before .before .before .before .before .before .before .before .before .before in
+    let low = refuted (c .before .cites-motive .ensures) (c .if1 .left) in
+    (start .before .before .pre .0, (told (c .before .before) .0, omega (arith, low)))
+
 returns : tie.Need-returns
-unfolding contextsIn linesIn
-returns c =
-    let at = c .before in
-    let c3 = at .before .before .before in
-    let c6 = c3 .before .before .before in
-    let start = c6 .before .before .before .before .before .before in
-    let rows = start .pre .1 .1 in
-    let bytes = start .args .sheet .now in
-    let terms = start .args .terms in
-    let own = start .pre .1 .0 in
-    line-decided _ _ _ _ (start .args .line) (rows .0) (rows .1) (rows .2) own _ _ (part-to-end bytes (10 * terms))
-    (part-to-end bytes (10 * terms + 4 * start .args .contexts)) _ _ _ _ _
-    (c6 .before .judgment-of .ensures ∙ ap judgmentOf (c6 .before .before .read-line .ensures))
-    (c3 .before .before .judgment-of2 .ensures ∙ ap judgmentOf (c6 .read-line2 .ensures))
-    (c3 .judgment-of3 .ensures ∙ ap judgmentOf (c3 .before .read-line3 .ensures))
-    (at .before .judgment-of4 .ensures ∙ ap judgmentOf (at .before .before .read-line4 .ensures))
-    (at .judgment-of5 .ensures) _ (c .is-instance .ensures)
+returns c = told (c .before .before .before) .1 _ (c .is-cited-instance .ensures)
+
+returns-2 : tie.Need-returns-2
+returns-2 c = told (c .before .before .before) .1 _ (c .is-instance .ensures)
 
 pub line-follows-spec : {M : Type 1} → statement M
 line-follows-spec =
@@ -147,5 +198,8 @@ line-follows-spec =
     read-line-requires-4
     judgment-of-requires-4
     judgment-of-requires-5
+    cites-motive-requires
+    is-cited-instance-requires
     is-instance-requires
-    returns)
+    returns
+    returns-2)
