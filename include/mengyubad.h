@@ -1,6 +1,6 @@
 /*
  * Mengyubad: admission of derivation sheets, finding of a judgment or a batch of judgments, withdrawal of a line or a
- * set of lines, marking of normal terms, day numbers and reading windows.
+ * set of lines, conversion to edition 3, marking of normal terms, day numbers and reading windows.
  *
  * Link libmengyubad.a (`rt staticlib mengyubad` writes it to target/staticlib; x86-64). What each function answers and
  * leaves in the buffers is proved: the contracts stand in crates/mengyubad/src/lib.rt, and the comments here say them
@@ -12,17 +12,17 @@
  *
  * Stack: terms are walked by recursion, at most 3,072 levels deep. Measured on admission, which the other functions on
  * sheets begin with, by tests/c/stack.c: a level takes 240 bytes where a term is substituted in and fewer where it is
- * raised, and the rest 13 KB, so that 3,072 levels take 750 KB. The deepest walk of a sheet that it builds, some
- * 2,030 levels, takes 452 KB. A search or a batch takes 2.2 KB more, for the heights of the lines; withdrawal, of a
- * line or of a set, takes 5 KB more, 755 KB at 3,072 levels. A normal term of 3,072 levels is marked in 642 KB,
- * measured there too. The two functions on dates walk no terms and need little stack.
+ * raised, and the rest 13 KB, so that 3,072 levels take 750 KB. The deepest walk of a sheet that it builds, some 2,030
+ * levels, takes 452 KB. A search or a batch takes 2.2 KB more, for the heights of the lines; withdrawal, of a line or
+ * of a set, takes 5 KB more, and conversion 6.3 KB, which is 757 KB at 3,072 levels. A normal term of 3,072 levels is
+ * marked in 642 KB, measured there too. The two functions on dates walk no terms and need little stack.
  *
  * Every function returns 0, or the number of a refusal, and sets all three words of `values`:
  *   0       mengyubad_admit: T, C, L; mengyubad_find: the line, 0, 0; mengyubad_find_all: the number of judgments,
- *           0, 0; mengyubad_withdraw, mengyubad_withdraw_set: the new length, 0, 0; mengyubad_normal: 1 for yes or 0
- *           for no, 0, 0; mengyubad_day_number: the day number, 0, 0; mengyubad_window: 1 for open or 0 for closed,
- *           0, 0
- *   1 to 19 the place, 0, 0
+ *           0, 0; mengyubad_withdraw, mengyubad_withdraw_set, mengyubad_convert: the new length, 0, 0;
+ *           mengyubad_normal: 1 for yes or 0 for no, 0, 0; mengyubad_day_number: the day number, 0, 0;
+ *           mengyubad_window: 1 for open or 0 for closed, 0, 0
+ *   1 to 21 the place, 0, 0
  *
  * The work buffer takes the sizes of the terms, one word each; MENGYUBAD_MOST_TERMS words serve every sheet. What it
  * held does not matter. Afterwards:
@@ -70,13 +70,16 @@ enum mengyubad_number {
     MENGYUBAD_LINE_USED = 12,       /* withdrawal, a later line uses it as a premise: the lowest such line; of a set,
                                        the highest listed line that an unlisted one uses: the lowest such unlisted
                                        line */
-    MENGYUBAD_OUT_SHORT = 13,       /* withdrawal, output under the new length: 0 */
+    MENGYUBAD_OUT_SHORT = 13,       /* withdrawal or conversion, output under the new length: 0 */
     MENGYUBAD_NOT_FOUND = 14,       /* finding, no line has those five numbers: 0 */
     MENGYUBAD_NO_DATE = 15,         /* a date that does not exist, or outside 1970 to 2199: 0 */
     MENGYUBAD_NO_DAYS = 16,         /* a window whose last date is before its first: 0 */
     MENGYUBAD_NO_TERM = 17,         /* a term number not below T: the term number */
     MENGYUBAD_NOT_RISING = 18,      /* withdrawal of a set, a list of lines that does not rise strictly: 0 */
-    MENGYUBAD_ANSWERS_SHORT = 19    /* batch, fewer words for answers than judgments: 0 */
+    MENGYUBAD_ANSWERS_SHORT = 19,   /* batch, fewer words for answers than judgments: 0 */
+    MENGYUBAD_NOT_EARLIER = 20,     /* conversion, a sheet of edition 3 already: 0 */
+    MENGYUBAD_NO_MOTIVE = 21        /* conversion, a line of rule 33 or 34 without an earlier line that gives its P a
+                                       universe in G,Nat: the lowest such line. No sheet that is admitted has one */
 };
 
 /* A batch's answer for a judgment that no line states. */
@@ -124,6 +127,17 @@ size_t mengyubad_withdraw(const uint8_t *sheet, size_t sheet_length, size_t line
  */
 size_t mengyubad_withdraw_set(const uint8_t *sheet, size_t sheet_length, const size_t *lines, size_t count,
                               uint32_t *work, size_t work_words, uint8_t *out, size_t out_length, size_t values[3]);
+
+/*
+ * Admits a sheet of edition 1 or 2, then writes it to `out` in edition 3. A line of rule 33 or 34 states in a context G
+ * what ind(P, a, b, c) equals; it gets as its first premise the lowest earlier line of form 1 that gives P some
+ * universe in G,Nat, and the premises that it has move one place on. Nothing else differs but the edition, so that the
+ * length is the same and every line keeps its number and its judgment; what is written is admitted. Returns 0, 1 to 10,
+ * then 20, 21 or 13, the first of these. Bytes of `out` beyond the length are as they were, and on any refusal so is
+ * all of `out`.
+ */
+size_t mengyubad_convert(const uint8_t *sheet, size_t sheet_length, uint32_t *work, size_t work_words, uint8_t *out,
+                         size_t out_length, size_t values[3]);
 
 /*
  * Admits a sheet, then says whether the term with number `term` is normal. Lambda, pair, Pi, Sigma, succ, universe, Nat

@@ -10,7 +10,7 @@ use mengyubad::Answer;
 type Outcome = (Answer, Buffers);
 
 const WORK: u32 = 0xA5A5_A5A5;
-const OUT: u8 = 0x5A;
+pub const OUT: u8 = 0x5A;
 /// As in the list of the samples' answers.
 const ANSWER: u16 = 50505;
 

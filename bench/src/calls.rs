@@ -20,6 +20,7 @@ pub enum Call {
     FindSingly(Vec<u32>),
     Withdraw(usize),
     WithdrawSet(Vec<usize>),
+    Convert,
     Normal(usize),
 }
 
@@ -36,6 +37,7 @@ impl Call {
             }),
             Call::Withdraw(n) => mengyubad::withdraw(sheet, *n, work, out),
             Call::WithdrawSet(list) => mengyubad::withdraw_set(sheet, list, work, out),
+            Call::Convert => mengyubad::convert(sheet, work, out),
             Call::Normal(term) => mengyubad::normal(sheet, *term, work),
         }
     }
@@ -52,6 +54,7 @@ impl Call {
             }),
             Call::Withdraw(n) => checker.withdraw(sheet, *n, work, out),
             Call::WithdrawSet(list) => checker.withdraw_set(sheet, list, work, out),
+            Call::Convert => checker.convert(sheet, work, out),
             Call::Normal(term) => checker.normal(sheet, *term, work),
         }
     }

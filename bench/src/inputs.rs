@@ -145,13 +145,27 @@ impl Input {
         ]
     }
 
-    /// The admission, a search for the last line's judgment, the withdrawal of the last line, and `normal`.
-    fn all_calls(self) -> [Input; 4] {
+    fn convert(&self) -> Input {
+        self.with("convert", Call::Convert)
+    }
+
+    /// The lines that conversion adds a motive to.
+    pub fn inductions(&self) -> usize {
+        let [_, _, lines] = self.counts();
+        let end = self.sheet.len() - 16;
+        let rows = self.sheet[end - 20 * lines..end].chunks_exact(20);
+        rows.filter(|row| matches!(row[2..4], [33 | 34, 0])).count()
+    }
+
+    /// The admission, a search for the last line's judgment, the withdrawal of the last line, the conversion, and
+    /// `normal`.
+    fn all_calls(self) -> [Input; 5] {
         let [_, _, lines] = self.counts();
         let find = self.find();
         let withdraw = self.with("withdraw from", Call::Withdraw(lines - 1));
+        let convert = self.convert();
         let normal = self.normal();
-        [self, find, withdraw, normal]
+        [self, find, withdraw, convert, normal]
     }
 }
 
@@ -193,6 +207,11 @@ pub fn single() -> Vec<Input> {
         ),
     ];
     all.extend(trees.map(|(name, build)| admit(name, build(LARGEST, 3072, 1024))));
+    all.extend(sheets::inductions().into_iter().flat_map(|(name, sheet)| {
+        let admission = admit(name, sheet);
+        let conversion = admission.convert();
+        [admission, conversion]
+    }));
     all.push(admit("normalisation", sheets::normalisation(3072, 1024)));
     all.push(admit(
         "normalisation steps, open tree",

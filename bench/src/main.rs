@@ -13,6 +13,7 @@ mod samples;
 mod sheets;
 mod tuned;
 
+use calls::Call;
 use dates::Question;
 use inputs::{Input, Sweep};
 use measure::Bench;
@@ -44,9 +45,22 @@ fn measure_single(bench: &mut Bench, word: &str) {
     println!("{}", report::HEAD);
     let mut inputs = inputs::single();
     inputs.retain(|input| input.name.contains(word));
-    for input in inputs {
-        let measured = run(bench, &input);
-        println!("{}", report::row(&input, &measured));
+    for input in &inputs {
+        let measured = run(bench, input);
+        println!("{}", report::row(input, &measured));
+    }
+    inputs.retain(|input| matches!(input.call, Call::Convert));
+    if !inputs.is_empty() {
+        measure_conversions(bench, &inputs);
+    }
+}
+
+/// Measures conversions beside the admissions of the same sheets.
+fn measure_conversions(bench: &mut Bench, conversions: &[Input]) {
+    println!("\n{}", report::CONVERSIONS_HEAD);
+    for input in conversions {
+        let times = bench.times_admission(input);
+        println!("{}", report::conversion_row(input, times));
     }
 }
 

@@ -1,6 +1,6 @@
-//! Times of the proved library and of the tuned checker on one input, taken in turn.
+//! Times of the proved library and of the tuned checker on one input, or of two calls by one of them, taken in turn.
 
-use crate::calls::Buffers;
+use crate::calls::{Buffers, Call};
 use crate::dates::Question;
 use crate::inputs::{Input, BATCH};
 use crate::report::Measured;
@@ -34,37 +34,46 @@ impl Bench {
         }
     }
 
-    fn proved(&mut self, input: &Input) -> Answer {
-        let sheet = black_box(&input.sheet[..]);
-        input.call.proved(sheet, &mut self.buffers)
+    fn proved(&mut self, sheet: &[u8], call: &Call) -> Answer {
+        call.proved(black_box(sheet), &mut self.buffers)
     }
 
-    fn tuned(&mut self, input: &Input) -> Answer {
-        let sheet = black_box(&input.sheet[..]);
-        input
-            .call
-            .tuned(&mut self.checker, sheet, &mut self.buffers)
+    fn tuned(&mut self, sheet: &[u8], call: &Call) -> Answer {
+        call.tuned(&mut self.checker, black_box(sheet), &mut self.buffers)
     }
 
     pub fn measure(&mut self, input: &Input) -> Measured {
-        medians(|side| match side {
-            Side::Proved => self.proved(input),
-            Side::Tuned => self.tuned(input),
-        })
+        let Input { sheet, call, .. } = input;
+        let [proved, tuned] = medians(|side| match side {
+            Side::One => self.proved(sheet, call),
+            Side::Other => self.tuned(sheet, call),
+        });
+        Measured { proved, tuned }
+    }
+
+    /// How many times longer the call takes than the admission of its sheet: proved, tuned.
+    pub fn times_admission(&mut self, input: &Input) -> [f64; 2] {
+        let Input { sheet, call, .. } = input;
+        let proved = medians(|side| match side {
+            Side::One => self.proved(sheet, call),
+            Side::Other => self.proved(sheet, &Call::Admit),
+        });
+        let tuned = medians(|side| match side {
+            Side::One => self.tuned(sheet, call),
+            Side::Other => self.tuned(sheet, &Call::Admit),
+        });
+        [proved, tuned].map(|[call, admission]| call / admission)
     }
 }
 
 /// Measures one question on dates. Many are put in turn, since the branches on a single date would all be foreseen.
 pub fn measure_on_dates<Q: Question>(questions: &[Q]) -> Measured {
     let all = medians(|side| match side {
-        Side::Proved => put_all(questions, Q::proved),
-        Side::Tuned => put_all(questions, Q::tuned),
+        Side::One => put_all(questions, Q::proved),
+        Side::Other => put_all(questions, Q::tuned),
     });
-    let each = |seconds: f64| seconds / questions.len() as f64;
-    Measured {
-        proved: each(all.proved),
-        tuned: each(all.tuned),
-    }
+    let [proved, tuned] = all.map(|seconds| seconds / questions.len() as f64);
+    Measured { proved, tuned }
 }
 
 fn put_all<Q: Question>(questions: &[Q], answer: impl Fn(Q) -> Answer) {
@@ -73,30 +82,27 @@ fn put_all<Q: Question>(questions: &[Q], answer: impl Fn(Q) -> Answer) {
     }
 }
 
-/// Who is called.
+/// Which of the two calls that are compared.
 enum Side {
-    Proved,
-    Tuned,
+    One,
+    Other,
 }
 
 /// The medians of interleaved samples, after a warm-up that also settles how often a sample repeats the call.
-fn medians<A>(mut call: impl FnMut(Side) -> A) -> Measured {
-    let proved_calls = calibrated(|| call(Side::Proved));
-    let tuned_calls = calibrated(|| call(Side::Tuned));
-    let (mut proved, mut tuned) = (Vec::new(), Vec::new());
+fn medians<A>(mut call: impl FnMut(Side) -> A) -> [f64; 2] {
+    let calls = calibrated(|| call(Side::One));
+    let other_calls = calibrated(|| call(Side::Other));
+    let (mut one, mut other) = (Vec::new(), Vec::new());
     let mut samples = SAMPLES;
-    while proved.len() < samples {
-        let seconds = timed(proved_calls, || call(Side::Proved));
+    while one.len() < samples {
+        let seconds = timed(calls, || call(Side::One));
         if seconds > LONG.as_secs_f64() {
             samples = LONG_SAMPLES;
         }
-        proved.push(seconds);
-        tuned.push(timed(tuned_calls, || call(Side::Tuned)));
+        one.push(seconds);
+        other.push(timed(other_calls, || call(Side::Other)));
     }
-    Measured {
-        proved: median(proved),
-        tuned: median(tuned),
-    }
+    [one, other].map(median)
 }
 
 /// How many calls fill a sample.

@@ -19,6 +19,10 @@ pub const DATES_HEAD: &str = "\
 | call | proved | tuned | proved / tuned |
 |---|---:|---:|---:|";
 
+pub const CONVERSIONS_HEAD: &str = "\
+| sheet | L | of rules 33 and 34 | proved, conversion / admission | tuned, conversion / admission |
+|---|---:|---:|---:|---:|";
+
 /// How the figures were taken.
 pub fn note() -> String {
     let (long, least) = (LONG.as_millis(), SAMPLE.as_millis());
@@ -40,6 +44,18 @@ pub fn row(input: &Input, m: &Measured) -> String {
         times(m),
         three_digits(rate(m.proved)),
         three_digits(rate(m.tuned)),
+    )
+}
+
+/// How many times longer a conversion takes than the admission of the same sheet, on either side.
+pub fn conversion_row(input: &Input, [proved, tuned]: [f64; 2]) -> String {
+    let [_, _, lines] = input.counts();
+    format!(
+        "| {} | {lines} | {} | {} | {} |",
+        input.name.trim_start_matches("convert "),
+        input.inductions(),
+        three_digits(proved),
+        three_digits(tuned),
     )
 }
 

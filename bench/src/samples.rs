@@ -1,5 +1,5 @@
 //! Tests: the sample sheets and their terms with their known answers, batches of their judgments, sets of their lines,
-//! and damaged sheets, on both sides.
+//! their conversions, and damaged sheets, on both sides.
 
 use crate::agree;
 use crate::calls::{Buffers, Call};
@@ -44,8 +44,8 @@ fn batches() -> Vec<(String, Vec<u32>)> {
     batches
 }
 
-/// The sheets of a bundle, which stand one behind the other, with the lines of its list: name, length and until when
-/// the answer holds, if it is to change.
+/// The sheets of a bundle, which stand one behind the other, with the lines of its list: name, length, what else is
+/// said of the sheet, and until when the answer holds, if it is to change.
 fn bundle(name: &str) -> Vec<(String, Vec<u8>)> {
     let bundle = sample(&format!("{name}.sheets"));
     let list = list(&format!("{name}.list"));
@@ -61,7 +61,7 @@ fn bundle(name: &str) -> Vec<(String, Vec<u8>)> {
     sheets
 }
 
-/// The sheets of all bundles.
+/// The sheets of the bundles that are only admitted.
 fn bundled() -> Vec<(String, Vec<u8>)> {
     ["normalisation", "motives"].map(bundle).concat()
 }
@@ -72,14 +72,15 @@ fn samples() -> Vec<Vec<u8>> {
     let inner = entries(&data).filter(|path| path.is_dir());
     let paths = entries(&data).chain(inner.flat_map(|path| entries(&path)));
     let sheets = paths.filter(|path| path.extension().is_some_and(|e| e == "sheet"));
+    let bundled = [bundled(), bundle("conversion")].concat();
     sheets
         .map(|path| fs::read(path).expect("a sheet"))
-        .chain(bundled().into_iter().map(|(_, sheet)| sheet))
+        .chain(bundled.into_iter().map(|(_, sheet)| sheet))
         .collect()
 }
 
 /// The parts of the list of answers, in their order: on sheets and their lines, on dates, on terms, on the bundles, on
-/// sets of lines, on batches.
+/// sets of lines, on batches, on conversions.
 pub enum Part {
     Sheets,
     Dates,
@@ -87,6 +88,7 @@ pub enum Part {
     Bundles,
     Sets,
     Batches,
+    Conversions,
 }
 
 /// The lines of a part. Dates have hyphens; names of sheets have none, and those of bundles no ending.
@@ -103,14 +105,16 @@ pub fn listed(part: Part) -> Vec<String> {
     };
     let bundles = after(behind, &|line| !on_file(line));
     let sets = after(bundles, &on_file);
-    let on_batches = lines.len() - batches().len();
+    let conversions = 1 + lines.iter().rposition(on_file).expect("a batch");
+    let on_batches = conversions - batches().len();
     match part {
         Part::Sheets => lines[..first].to_vec(),
         Part::Dates => lines[first..behind].to_vec(),
         Part::Terms => lines[behind..bundles].to_vec(),
         Part::Bundles => lines[bundles..sets].to_vec(),
         Part::Sets => lines[sets..on_batches].to_vec(),
-        Part::Batches => lines[on_batches..].to_vec(),
+        Part::Batches => lines[on_batches..conversions].to_vec(),
+        Part::Conversions => lines[conversions..].to_vec(),
     }
 }
 
@@ -280,6 +284,37 @@ fn batches_are_answered_as_listed() {
     }
 }
 
+/// A line of the list is that of the bundle's list and the answer to the sheet. Behind it is for each length of the
+/// output a line with the answer; if a sheet is written, with the answer to it, and that it is the one expected; and
+/// that the rest of the output is.
+#[test]
+fn conversions_are_answered_as_listed() {
+    let mut checker = Checker::new();
+    let results = sample("conversion.results");
+    let (mut expected, mut lines) = (&results[..], Vec::new());
+    for (name, sheet) in bundle("conversion") {
+        let (answer, _) = alike(&mut checker, &sheet, &Call::Admit, 3072, 0);
+        lines.push(format!("{name} {}", printed(answer, 3)));
+        let mut numbers = name.split(' ').skip(2).map_while(|w| w.parse().ok());
+        let (new, behind) = expected.split_at(numbers.next().expect("a length"));
+        for room in numbers {
+            let (answer, buffers) = alike(&mut checker, &sheet, &Call::Convert, 3072, room);
+            lines.push(format!("{room} {}", printed(answer, 1)));
+            let mut wanted = vec![agree::OUT; room];
+            if answer.number == 0 {
+                let (again, _) = alike(&mut checker, new, &Call::Admit, 3072, 0);
+                lines.extend([printed(again, 3), "as expected".to_string()]);
+                wanted[..new.len()].copy_from_slice(new);
+            }
+            assert_eq!(buffers.out, wanted, "{name}");
+            lines.push("as expected".to_string());
+        }
+        expected = behind;
+    }
+    assert!(expected.is_empty());
+    assert_eq!(lines, listed(Part::Conversions));
+}
+
 /// Sheets whose judgments are stated many times, at heights that differ.
 #[test]
 fn judgments_of_many_lines_are_answered_alike() {
@@ -296,6 +331,7 @@ fn lines_and_terms_of_the_samples_are_answered_alike() {
         lines_are_alike(&mut checker, &sheet);
         batches_are_alike(&mut checker, &sheet);
         sets_are_alike(&mut checker, &sheet);
+        conversions_are_alike(&mut checker, &sheet);
         terms_are_alike(&mut checker, &sheet);
     }
 }
@@ -357,6 +393,16 @@ fn sets_are_alike(checker: &mut Checker, sheet: &[u8]) {
     }
 }
 
+fn conversions_are_alike(checker: &mut Checker, sheet: &[u8]) {
+    let (terms, _) = stated(sheet);
+    let length = sheet.len();
+    let mut alike = |words, room| alike(checker, sheet, &Call::Convert, words, room);
+    alike(terms, length);
+    alike(terms + 1, length + 3);
+    alike(terms, length.saturating_sub(1));
+    alike(terms.saturating_sub(1), length);
+}
+
 /// All terms of a small table and some of a large one, the last among them; then none.
 fn terms_are_alike(checker: &mut Checker, sheet: &[u8]) {
     let (terms, _) = stated(sheet);
@@ -393,13 +439,14 @@ fn damaged_sheets_are_answered_alike() {
     all.push(sheets::beta_steps(4, 0, 400));
     all.push(sheets::induction_steps(4, 0, 400));
     all.push(sheets::induction_steps_cited(4, 0, 400));
+    all.extend(sheets::inductions().map(|(_, sheet)| sheet));
     all.push(sheets::normalisation(0, 200));
     let mut checker = Checker::new();
-    let mut answered = [0; 20];
+    let mut answered = [0; 22];
     for round in 0..40_000 {
         let sheet = damaged(&all[round % all.len()], &mut random);
         let enough = sheet.len();
-        let (call, room) = match random.below(4) {
+        let (call, room) = match random.below(5) {
             0 => (Call::Withdraw(random.below(30)), enough),
             1 => {
                 let list = vec![random.below(30), random.below(60)];
@@ -409,11 +456,12 @@ fn damaged_sheets_are_answered_alike() {
                 let wanted = judgments(&sheet, random.below(8)).concat();
                 (Call::FindAll(wanted), random.below(8))
             }
+            3 => (Call::Convert, enough - random.below(2)),
             _ => (Call::Normal(random.below(30)), 0),
         };
         let (answer, _) = alike(&mut checker, &sheet, &call, 3072, room);
         answered[answer.number] += 1;
     }
-    let expected = [0, 2, 3, 5, 6, 8, 9, 10, 11, 12, 17, 18, 19];
+    let expected = [0, 2, 3, 5, 6, 8, 9, 10, 11, 12, 13, 17, 18, 19, 20];
     assert!(expected.iter().all(|&n| answered[n] > 0), "{answered:?}");
 }

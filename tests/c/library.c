@@ -1,7 +1,8 @@
 /*
  * Calls the library from C: admits S, finds a judgment and batches of judgments, withdraws a line and sets of lines,
- * marks normal terms, numbers days and asks windows. Prints nothing if all is as document 01 says, and for dates,
- * normal terms, editions, sets of lines, batches and heights document 02, A1, A2, A5 to A8 and A10.
+ * converts sheets, marks normal terms, numbers days and asks windows. Prints nothing if all is as document 01 says, and
+ * for dates, normal terms, editions, sets of lines, batches, heights and conversions document 02, A1, A2, A5 to A8, A10
+ * and A11.
  */
 #include <inttypes.h>
 #include <stdbool.h>
@@ -115,56 +116,71 @@ static void admits_editions(void)
     }
 }
 
-/* Line 7 states ind(Nat, zero, zero, variable 0) = zero : Nat by rule 33. Its motive is line 3, Nat : U_0 in context 1,
- * and the printed premises are lines 4 and 6. */
-static size_t induction(uint8_t *sheet, unsigned edition, const unsigned premises[4])
+enum { INDUCTIONS_BYTES = 294 };
+
+/* The premises of lines 8 and 9 as the rules are printed, and behind the motive, the lower of the two there are. */
+static const unsigned printed[2][4] = {{4, 6, 0, 0}, {4, 4, 6, 0}};
+static const unsigned cited[2][4] = {{3, 4, 6, 0}, {3, 4, 4, 6}};
+
+/* Line 8 states term 4 = zero : Nat by rule 33, line 9 term 6 = term 4 : Nat by rule 34. Term 4 is ind(Nat, zero, zero,
+ * variable 0), and term 6 has succ(zero) for its first zero. Lines 3 and 7 state Nat : U_0 in context 1, the motive. */
+static size_t inductions(uint8_t *sheet, unsigned edition, const unsigned premises[2][4])
 {
     static const unsigned rows[] = {
-        10, 0, 0, 0, 0, 1, 0, 0, 0, 0, 2, 0, 0, 0, 0, 11, 0, 0, 0, 0, 13, 0, 3, 3, 1, /* terms */
-        0, 0, 1, 0,                                                                   /* contexts 1 and 2 */
-        0, 1, 0, 0, 0, 0, 0, 0, 0, 0, 1, 12, 0, 0, 0, 2, 0, 0, 0, 0,                  /* lines 0 and 1 */
-        0, 2, 1, 0, 0, 0, 0, 1, 0, 0, 1, 12, 1, 0, 0, 2, 2, 0, 0, 0,                  /* lines 2 and 3 */
-        1, 13, 0, 3, 0, 0, 0, 0, 0, 0, 0, 2, 2, 0, 0, 0, 2, 3, 0, 0,                  /* lines 4 and 5 */
-        1, 3, 2, 1, 0, 0, 5, 0, 0, 0, 2, 33, 0, 4, 3, 0                               /* lines 6 and 7 */
+        10, 0, 0, 0, 0, 1, 0, 0, 0, 0, 2, 0, 0, 0, 0, 11, 0, 0, 0, 0,  /* terms 0 to 3: Nat, variable 0, U_0, zero */
+        13, 0, 3, 3, 1, 12, 3, 0, 0, 0, 13, 0, 5, 3, 1,                /* terms 4 to 6 */
+        0, 0, 1, 0,                                                    /* contexts 1 and 2 */
+        0, 1, 0, 0, 0, 0, 0, 0, 0, 0, 1, 12, 0, 0, 0, 2, 0, 0, 0, 0,   /* lines 0 and 1 */
+        0, 2, 1, 0, 0, 0, 0, 1, 0, 0, 1, 12, 1, 0, 0, 2, 2, 0, 0, 0,   /* lines 2 and 3 */
+        1, 13, 0, 3, 0, 0, 0, 0, 0, 0, 0, 2, 2, 0, 0, 0, 2, 3, 0, 0,   /* lines 4 and 5 */
+        1, 3, 2, 1, 0, 0, 5, 0, 0, 0, 1, 12, 1, 0, 0, 2, 2, 0, 0, 0    /* lines 6 and 7 */
     };
+    static const unsigned last[2][6] = {{2, 33, 0, 4, 3, 0}, {2, 34, 0, 6, 4, 0}};
     uint8_t *at = sheet;
     put_words(&at, rows, sizeof rows / sizeof *rows);
-    put_words(&at, premises, 4);
-    put_trailer(&at, 5, 2, 8, edition);
+    for (size_t i = 0; i < 2; i++) {
+        put_words(&at, last[i], 6);
+        put_words(&at, premises[i], 4);
+    }
+    put_trailer(&at, 7, 2, 10, edition);
     return (size_t)(at - sheet);
 }
 
+static const uint32_t induction_sizes[WORDS] = {1, 1, 1, 1, 5, 2, 6, 7};
+
 static void admits_motives(void)
 {
-    enum { BYTES = 234 };
     static const struct {
         const char *what;
-        unsigned edition, premises[4];
+        unsigned edition, premises[2][4];
         size_t number, values[3];
     } cases[] = {
-        {"edition 1, no motive", 1, {4, 6, 0, 0}, MENGYUBAD_OK, {5, 2, 8}},
-        {"edition 2, no motive", 2, {4, 6, 0, 0}, MENGYUBAD_OK, {5, 2, 8}},
-        {"edition 3, no motive", 3, {4, 6, 0, 0}, MENGYUBAD_NO_INSTANCE, {7, 0, 0}},
-        {"edition 1, motive", 1, {3, 4, 6, 0}, MENGYUBAD_LINE, {7, 0, 0}},
-        {"edition 2, motive", 2, {3, 4, 6, 0}, MENGYUBAD_LINE, {7, 0, 0}},
-        {"edition 3, motive", 3, {3, 4, 6, 0}, MENGYUBAD_OK, {5, 2, 8}},
-        {"edition 3, motive and a fourth", 3, {3, 4, 6, 1}, MENGYUBAD_LINE, {7, 0, 0}},
-        {"edition 3, motive in context 0", 3, {1, 4, 6, 0}, MENGYUBAD_NO_INSTANCE, {7, 0, 0}},
-        {"edition 3, motive last", 3, {4, 6, 3, 0}, MENGYUBAD_NO_INSTANCE, {7, 0, 0}},
-        {"edition 3, line 7 as its motive", 3, {7, 4, 6, 0}, MENGYUBAD_LINE, {7, 0, 0}},
-        {"edition 4, motive", 4, {3, 4, 6, 0}, MENGYUBAD_MARK, {0, 0, 0}}
+        {"edition 1, no motive", 1, {{4, 6, 0, 0}, {4, 4, 6, 0}}, MENGYUBAD_OK, {7, 2, 10}},
+        {"edition 2, no motive", 2, {{4, 6, 0, 0}, {4, 4, 6, 0}}, MENGYUBAD_OK, {7, 2, 10}},
+        {"edition 3, no motive", 3, {{4, 6, 0, 0}, {4, 4, 6, 0}}, MENGYUBAD_NO_INSTANCE, {8, 0, 0}},
+        {"edition 3, no motive of rule 34", 3, {{3, 4, 6, 0}, {4, 4, 6, 0}}, MENGYUBAD_NO_INSTANCE, {9, 0, 0}},
+        {"edition 1, motives", 1, {{3, 4, 6, 0}, {3, 4, 4, 6}}, MENGYUBAD_LINE, {8, 0, 0}},
+        {"edition 2, motives", 2, {{3, 4, 6, 0}, {3, 4, 4, 6}}, MENGYUBAD_LINE, {8, 0, 0}},
+        {"edition 2, motive of rule 34", 2, {{4, 6, 0, 0}, {3, 4, 4, 6}}, MENGYUBAD_LINE, {9, 0, 0}},
+        {"edition 3, motives", 3, {{3, 4, 6, 0}, {3, 4, 4, 6}}, MENGYUBAD_OK, {7, 2, 10}},
+        {"edition 3, later motives", 3, {{7, 4, 6, 0}, {7, 4, 4, 6}}, MENGYUBAD_OK, {7, 2, 10}},
+        {"edition 3, motive and a fourth", 3, {{3, 4, 6, 1}, {3, 4, 4, 6}}, MENGYUBAD_LINE, {8, 0, 0}},
+        {"edition 3, motive in context 0", 3, {{1, 4, 6, 0}, {3, 4, 4, 6}}, MENGYUBAD_NO_INSTANCE, {8, 0, 0}},
+        {"edition 3, motive last", 3, {{4, 6, 3, 0}, {3, 4, 4, 6}}, MENGYUBAD_NO_INSTANCE, {8, 0, 0}},
+        {"edition 3, motive of rule 34 last", 3, {{3, 4, 6, 0}, {4, 4, 6, 3}}, MENGYUBAD_NO_INSTANCE, {9, 0, 0}},
+        {"edition 3, line 8 as its motive", 3, {{8, 4, 6, 0}, {3, 4, 4, 6}}, MENGYUBAD_LINE, {8, 0, 0}},
+        {"edition 4, motives", 4, {{3, 4, 6, 0}, {3, 4, 4, 6}}, MENGYUBAD_MARK, {0, 0, 0}}
     };
-    static const uint32_t left[WORDS] = {1, 1, 1, 1, 5, 7, 7, 7};
     for (size_t i = 0; i < sizeof cases / sizeof *cases; i++) {
-        uint8_t sheet[BYTES];
+        uint8_t sheet[INDUCTIONS_BYTES];
         uint32_t work[WORDS];
         size_t values[3] = {9, 9, 9};
         memcpy(work, poison, sizeof work);
-        expect_length(cases[i].what, induction(sheet, cases[i].edition, cases[i].premises), BYTES);
-        const size_t number = mengyubad_admit(sheet, BYTES, work, WORDS, values);
+        expect_length(cases[i].what, inductions(sheet, cases[i].edition, cases[i].premises), INDUCTIONS_BYTES);
+        const size_t number = mengyubad_admit(sheet, INDUCTIONS_BYTES, work, WORDS, values);
         const size_t *wanted = cases[i].values;
         expect(cases[i].what, number, values, cases[i].number, wanted[0], wanted[1], wanted[2]);
-        expect_same(cases[i].what, work, number == MENGYUBAD_MARK ? poison : left, sizeof work);
+        expect_same(cases[i].what, work, number == MENGYUBAD_MARK ? poison : induction_sizes, sizeof work);
     }
 }
 
@@ -381,6 +397,87 @@ static void refuses_sets(const uint8_t *s)
     }
 }
 
+/* Of S, which has no line of rule 33 or 34, only the edition changes. */
+static void converts(const uint8_t *s)
+{
+    uint32_t work[WORDS];
+    uint8_t out[S_BYTES], wanted[S_BYTES];
+    size_t values[3] = {9, 9, 9};
+    memcpy(wanted, s, S_BYTES);
+    wanted[S_BYTES - 10] = 3;
+    const size_t number = mengyubad_convert(s, S_BYTES, work, WORDS, out, S_BYTES, values);
+    expect("S to edition 3", number, values, MENGYUBAD_OK, S_BYTES, 0, 0);
+    expect_same("S in edition 3", out, wanted, sizeof out);
+}
+
+static void converts_inductions(void)
+{
+    enum { BYTES = INDUCTIONS_BYTES, ROOM = BYTES + 1 };
+    uint8_t wanted[ROOM], untouched[ROOM];
+    memset(wanted, 0xA5, sizeof wanted);
+    memset(untouched, 0xA5, sizeof untouched);
+    expect_length("inductions", inductions(wanted, 3, cited), BYTES);
+    for (unsigned edition = 1; edition <= 2; edition++) {
+        for (size_t room = BYTES - 1; room <= ROOM; room++) {
+            uint8_t sheet[BYTES], out[ROOM];
+            uint32_t work[WORDS];
+            size_t values[3] = {9, 9, 9};
+            const bool fits = room >= BYTES;
+            memcpy(work, poison, sizeof work);
+            memset(out, 0xA5, sizeof out);
+            char what[64];
+            snprintf(what, sizeof what, "edition %u to %zu bytes", edition, room);
+            expect_length(what, inductions(sheet, edition, printed), BYTES);
+            const size_t number = mengyubad_convert(sheet, BYTES, work, 7, out, room, values);
+            expect(what, number, values, fits ? MENGYUBAD_OK : MENGYUBAD_OUT_SHORT, fits ? BYTES : 0, 0, 0);
+            expect_same(what, out, fits ? wanted : untouched, sizeof out);
+            expect_same(what, work, induction_sizes, sizeof work);
+        }
+    }
+}
+
+/* Sheets that are not converted. 21 is not among the answers: an admitted sheet has its motives. */
+static void refuses_conversions(void)
+{
+    enum { BYTES = INDUCTIONS_BYTES };
+    static const unsigned first_cited[2][4] = {{3, 4, 6, 0}, {4, 4, 6, 0}};
+    static const unsigned last_cited[2][4] = {{4, 6, 0, 0}, {3, 4, 4, 6}};
+    static const unsigned exchanged[2][4] = {{6, 4, 0, 0}, {4, 4, 6, 0}};
+    static const struct {
+        const char *what;
+        unsigned edition;
+        const unsigned (*premises)[4];
+        size_t length, words, room, number, place;
+        const uint32_t *left;
+    } cases[] = {
+        {"from edition 3", 3, cited, BYTES, WORDS, BYTES, MENGYUBAD_NOT_EARLIER, 0, induction_sizes},
+        {"from edition 3, short", 3, cited, BYTES, 7, BYTES - 1, MENGYUBAD_NOT_EARLIER, 0, induction_sizes},
+        {"from edition 3, no room", 3, cited, BYTES, 7, 0, MENGYUBAD_NOT_EARLIER, 0, induction_sizes},
+        {"from edition 2, no room", 2, printed, BYTES, 7, 0, MENGYUBAD_OUT_SHORT, 0, induction_sizes},
+        {"from edition 1, 6 words", 1, printed, BYTES, 6, BYTES, MENGYUBAD_WORK_SHORT, 0, poison},
+        {"from edition 3, 6 words", 3, cited, BYTES, 6, 0, MENGYUBAD_WORK_SHORT, 0, poison},
+        {"from edition 4", 4, cited, BYTES, WORDS, BYTES, MENGYUBAD_MARK, 0, poison},
+        {"15 bytes to convert", 2, printed, 15, WORDS, 0, MENGYUBAD_LENGTH, 0, poison},
+        {"a motive left out", 3, first_cited, BYTES, 7, 0, MENGYUBAD_NO_INSTANCE, 9, induction_sizes},
+        {"a motive in edition 2", 2, last_cited, BYTES, 7, BYTES, MENGYUBAD_LINE, 9, induction_sizes},
+        {"premises exchanged", 1, exchanged, BYTES, WORDS, 0, MENGYUBAD_NO_INSTANCE, 8, induction_sizes}
+    };
+    for (size_t i = 0; i < sizeof cases / sizeof *cases; i++) {
+        uint8_t sheet[BYTES], out[BYTES], untouched[BYTES];
+        uint32_t work[WORDS];
+        size_t values[3] = {9, 9, 9};
+        memcpy(work, poison, sizeof work);
+        memset(out, 0xA5, sizeof out);
+        memset(untouched, 0xA5, sizeof untouched);
+        expect_length(cases[i].what, inductions(sheet, cases[i].edition, cases[i].premises), BYTES);
+        const size_t number = mengyubad_convert(sheet, cases[i].length, work, cases[i].words, out, cases[i].room,
+                                                values);
+        expect(cases[i].what, number, values, cases[i].number, cases[i].place, 0, 0);
+        expect_same(cases[i].what, work, cases[i].left, sizeof work);
+        expect_same(cases[i].what, out, untouched, sizeof out);
+    }
+}
+
 /* Every term of S is normal. */
 static void marks_normal(const uint8_t *s)
 {
@@ -536,6 +633,9 @@ int main(void)
     withdraws_last_lines(s);
     lowers_premises();
     refuses_sets(s);
+    converts(s);
+    converts_inductions();
+    refuses_conversions();
     marks_normal(s);
     marks_normal_alone();
     numbers_days();

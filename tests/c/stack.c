@@ -1,7 +1,7 @@
 /*
- * Measures the stack that admission, a search, a batch of searches, the withdrawal of a set of lines and the marking of
- * a normal term take, on a stack of its own that is painted before each call. With no argument it prints nothing, and
- * it fails if the header's figure does not cover 3,072 levels; with one it prints what it measured.
+ * Measures the stack that admission, a search, a batch of searches, the withdrawal of a set of lines, a conversion and
+ * the marking of a normal term take, on a stack of its own that is painted before each call. With no argument it prints
+ * nothing, and it fails if the header's figure does not cover 3,072 levels; with one it prints what it measured.
  *
  * Terms are walked by recursion. Each level of a typed term has a line of its own, so that the lines of a sheet allow a
  * term of some thousand levels. Two sheets are built over c, which is succ^n of a variable: E-APPABS substitutes in c
@@ -169,17 +169,26 @@ static void find_all(void)
     succeeded = number == MENGYUBAD_OK && values[0] == 2 && answers[0] == 0 && answers[1] == 0;
 }
 
+static uint8_t out[MENGYUBAD_MOST_BYTES];
+
 /* Withdraws all lines. */
 static void withdraw(void)
 {
     static size_t all[1024];
-    static uint8_t out[MENGYUBAD_MOST_BYTES];
     size_t values[3];
     for (size_t i = 0; i < lines; i++)
         all[i] = i;
     const size_t number = mengyubad_withdraw_set(sheet, length, all, lines, work, MENGYUBAD_MOST_TERMS, out,
                                                  sizeof out, values);
     succeeded = number == MENGYUBAD_OK && values[0] == length - 20 * (size_t)lines;
+}
+
+/* Converts the sheet, of edition 1. */
+static void convert(void)
+{
+    size_t values[3];
+    const size_t number = mengyubad_convert(sheet, length, work, MENGYUBAD_MOST_TERMS, out, sizeof out, values);
+    succeeded = number == MENGYUBAD_OK && values[0] == length;
 }
 
 /* Asks for the last term. */
@@ -253,6 +262,7 @@ int main(int argc, char **argv)
     const int found = is_covered("a search", admission("search", find, told));
     const int answered = is_covered("a batch", admission("batch", find_all, told));
     const int withdrawn = is_covered("withdrawal", admission("withdrawal", withdraw, told));
+    const int converted = is_covered("conversion", admission("conversion", convert, told));
     const int marked = is_covered("marking", marking(told));
-    return admitted && found && answered && withdrawn && marked ? 0 : 1;
+    return admitted && found && answered && withdrawn && converted && marked ? 0 : 1;
 }

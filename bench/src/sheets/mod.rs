@@ -3,6 +3,7 @@
 mod builder;
 mod deep;
 mod heads;
+mod inductions;
 mod normal;
 mod normal_steps;
 mod normalisation;
@@ -15,6 +16,7 @@ mod trees;
 
 pub use deep::{deep_binders, deep_context};
 pub use heads::equal_heads;
+pub use inductions::inductions;
 pub use normal::{doubled_pairs, nested_arguments, nested_motives, shared_function};
 pub use normalisation::{normalisation, normalisation_steps};
 pub use plausible::{plausible, typical};

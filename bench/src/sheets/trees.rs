@@ -17,7 +17,7 @@ fn large(sums: Sums, b: &mut Builder, x: u16, doublings: u32) -> u16 {
 }
 
 /// Pairs of numbers below `count`, each first as often as each second.
-fn pairs(count: usize) -> impl Iterator<Item = (usize, usize)> {
+pub fn pairs(count: usize) -> impl Iterator<Item = (usize, usize)> {
     (0..count * count).map(move |n| (n / count, n % count))
 }
 

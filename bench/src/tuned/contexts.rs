@@ -2,7 +2,7 @@
 
 use super::index::{mixed, Index};
 
-const ROOM: usize = 512;
+pub const ROOM: usize = 512;
 
 /// A context: the one that it extends, the row of the type that it adds, its length, and a context far below it, so that an entry is
 /// reached in a number of steps that grows with the logarithm of the length.
@@ -12,6 +12,19 @@ pub struct Context {
     pub added: u16,
     length: u16,
     jump: u16,
+}
+
+impl Context {
+    /// Is it the context `parent` with the type of row `added` added?
+    #[inline(always)]
+    fn is(self, parent: u16, added: u16) -> bool {
+        self.parent == parent && self.added == added
+    }
+}
+
+#[inline(always)]
+fn hash(parent: u16, added: u16) -> u64 {
+    mixed(u64::from(parent) << 16 | u64::from(added))
 }
 
 /// The context table of the sheet at hand; context 0 is the empty one.
@@ -44,12 +57,8 @@ impl Contexts {
                 return Err(n);
             }
             let contexts = &self.contexts;
-            let same = |m: u16| {
-                let other = contexts[usize::from(m) & (ROOM - 1)];
-                other.parent == parent && other.added == added
-            };
-            let hash = mixed(u64::from(parent) << 16 | u64::from(added));
-            if !self.index.insert(hash, n as u16, same) {
+            let same = |m: u16| contexts[usize::from(m) & (ROOM - 1)].is(parent, added);
+            if !self.index.insert(hash(parent, added), n as u16, same) {
                 return Err(n);
             }
             self.contexts[n & (ROOM - 1)] = self.entered(parent, added);
@@ -75,8 +84,14 @@ impl Contexts {
     /// Is context `n` the context `base` with the type of row `added` added?
     #[inline(always)]
     pub fn extends(&self, n: u16, base: u16, added: u16) -> bool {
-        let context = self.get(n);
-        n != 0 && context.added == added && context.parent == base
+        n != 0 && self.get(n).is(base, added)
+    }
+
+    /// The context `base` with the type of row `added` added; 0 if the sheet does not have it.
+    #[inline(always)]
+    pub fn extended(&self, base: u16, added: u16) -> u16 {
+        let same = |n: u16| self.get(n).is(base, added);
+        self.index.find(hash(base, added), same).unwrap_or(0)
     }
 
     /// Is context `n` the context `base` with `count` entries added?

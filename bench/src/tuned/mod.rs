@@ -1,8 +1,9 @@
-//! Admission, finding of a judgment and of batches, withdrawal of a line and of sets, normal terms, day numbers and
-//! windows, written for speed. The answers and the buffers are those of the proved library.
+//! Admission, finding of a judgment and of batches, withdrawal of a line and of sets, conversion to edition 3, normal
+//! terms, day numbers and windows, written for speed. The answers and the buffers are those of the proved library.
 
 mod batch;
 mod contexts;
+mod conversion;
 pub mod dates;
 mod equality;
 mod finding;

@@ -51,6 +51,15 @@ mod c {
             out_length: usize,
             values: *mut [usize; 3],
         ) -> usize;
+        pub fn mengyubad_convert(
+            sheet: *const u8,
+            sheet_length: usize,
+            work: *mut u32,
+            work_words: usize,
+            out: *mut u8,
+            out_length: usize,
+            values: *mut [usize; 3],
+        ) -> usize;
         pub fn mengyubad_normal(
             sheet: *const u8,
             sheet_length: usize,
@@ -164,6 +173,24 @@ pub fn withdraw_set(sheet: &[u8], lines: &[usize], work: &mut [u32], out: &mut [
             sheet.len(),
             lines.as_ptr(),
             lines.len(),
+            work.as_mut_ptr(),
+            work.len(),
+            out.as_mut_ptr(),
+            out.len(),
+            &mut values,
+        )
+    };
+    Answer { number, values }
+}
+
+/// Writes the sheet, of edition 1 or 2, to `out` in edition 3: the length, which is the same.
+pub fn convert(sheet: &[u8], work: &mut [u32], out: &mut [u8]) -> Answer {
+    let mut values = [0; 3];
+    // SAFETY: as in `withdraw`.
+    let number = unsafe {
+        c::mengyubad_convert(
+            sheet.as_ptr(),
+            sheet.len(),
             work.as_mut_ptr(),
             work.len(),
             out.as_mut_ptr(),

@@ -1,9 +1,7 @@
--- The new sheet of a withdrawal lies within its buffer.
+-- The new sheet of a withdrawal or a conversion lies within its buffer.
+use mathlib.Core.Path.{_≡_}
 use Prim.Native.Nat.{ℕ, _≤_}
-use Rattle.sheets.specs.declared.withdrawal.Withdrawal.{Withdrawal}
-use Rattle.sheets.specs.declared.withdrawal.Withdrawal.the-variants.{Written, Refused}
 
--- a length that is answered is within the room; a refusal answers none
-unfoldable pub Within : ℕ → Withdrawal → Type 0
-Within room (Written length) = length ≤ room
-Within room (Refused _ _) = Unit {0}
+-- a length that is answered, by `written`, is within the room
+abbrev pub Within : {A : Type 0} → (ℕ → A) → ℕ → A → Type 0
+Within written room answer = (length : ℕ) → answer ≡ written length → length ≤ room

@@ -13,6 +13,8 @@ use Rattle.sheets.specs.declared.finding.Found.{Found}
 use Rattle.sheets.specs.declared.finding.Found.the-variants.{Line, Refused as notFound}
 use Rattle.sheets.specs.declared.withdrawal.Withdrawal.{Withdrawal}
 use Rattle.sheets.specs.declared.withdrawal.Withdrawal.the-variants.{Written, Refused as notWritten}
+use Rattle.sheets.specs.declared.conversion.Conversion.{Conversion}
+use Rattle.sheets.specs.declared.conversion.Conversion.the-variants.{Written as Converted, Refused as notConverted}
 use Rattle.sheets.specs.declared.batch.Batch.{Batch}
 use Rattle.sheets.specs.declared.batch.Batch.the-variants.{Answered, Refused as noBatch}
 use Rattle.sheets.specs.declared.normality.Normality.{Normality}
@@ -69,6 +71,11 @@ foundText (notFound number place) = refusedText number place
 unfoldable pub withdrawalText : Withdrawal → List ℕ
 withdrawalText (Written new) = okText new
 withdrawalText (notWritten number place) = refusedText number place
+
+-- document 02, A11: "It answers that length"
+unfoldable pub conversionText : Conversion → List ℕ
+conversionText (Converted length) = okText length
+conversionText (notConverted number place) = refusedText number place
 
 -- document 02, A2: "answers yes for a term exactly if it is normal"
 unfoldable pub normalityText : Normality → List ℕ

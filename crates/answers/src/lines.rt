@@ -1,6 +1,7 @@
 // Answers as lines of text.
 use sheets::admission::Admission;
 use sheets::batch::Batch;
+use sheets::conversion::Conversion;
 use sheets::finding::Found;
 use sheets::normality::Normality;
 use sheets::withdrawal::Withdrawal;
@@ -10,8 +11,8 @@ ghost use Prim.Native.Nat.{_+_, _*_, _≤_};
 ghost use lib.ListN.{length};
 ghost use Rattle.io.specs.Counts.{Counts};
 ghost use Rattle.answers.specs.Text.{field, okText, refusedText, admissionText, foundText, withdrawalText};
-ghost use Rattle.answers.specs.Text.{normalityText, accessText, dayText, answerLine, answerLines, batchText};
-ghost use Rattle.answers.specs.Text.{Put, AtStart};
+ghost use Rattle.answers.specs.Text.{conversionText, normalityText, accessText, dayText, answerLine, answerLines};
+ghost use Rattle.answers.specs.Text.{batchText, Put, AtStart};
 
 // Puts bytes behind the first `at` bytes of `out`, and answers where they end.
 fn put(out: &mut [u8], at: usize, bytes: &[u8]) -> usize
@@ -98,6 +99,17 @@ pub fn put_withdrawal(answer: Withdrawal, out: &mut [u8; 80]) -> usize
     match answer {
         Withdrawal::Refused { number, place } => put_refusal(number, place, out),
         Withdrawal::Written { length } => put_value(length, out),
+    }
+}
+
+// Puts the line of a conversion's answer, and answers how many bytes it has.
+pub fn put_conversion(answer: Conversion, out: &mut [u8; 80]) -> usize
+    ensures { λ r. ⌜ Counts r (now (out .exit)) ⌝ }
+    ensures { λ r. ⌜ AtStart (conversionText answer) (now (out .entry)) (now (out .exit)) r ⌝ }
+{
+    match answer {
+        Conversion::Refused { number, place } => put_refusal(number, place, out),
+        Conversion::Written { length } => put_value(length, out),
     }
 }
 

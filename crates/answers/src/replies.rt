@@ -5,6 +5,7 @@ use crate::dates::read_date;
 use crate::lines::put_access;
 use crate::lines::put_admission;
 use crate::lines::put_batch;
+use crate::lines::put_conversion;
 use crate::lines::put_day;
 use crate::lines::put_found;
 use crate::lines::put_normality;
@@ -12,6 +13,8 @@ use crate::lines::put_withdrawal;
 use sheets::admission::admit;
 use sheets::batch::Batch;
 use sheets::batch::find_all_flat;
+use sheets::conversion::Conversion;
+use sheets::conversion::convert;
 use sheets::finding::Wanted;
 use sheets::finding::find;
 use sheets::normality::mark_normal;
@@ -25,8 +28,11 @@ ghost use Rattle.sheets.specs.Admission.{admitOf};
 ghost use Rattle.sheets.specs.Finding.{findOf};
 ghost use Rattle.sheets.specs.Batch.{wantedIn, batchOf, searchAnswers};
 ghost use Rattle.sheets.specs.WithdrawalSet.{withdrawSetOf, setOutAfter, KeepsTheUnlisted};
+ghost use Rattle.sheets.specs.Conversion.{convertOf, convertedAfter, KeepsEveryLine};
 ghost use Rattle.sheets.specs.Normality.{normalityOf};
-ghost use Rattle.answers.specs.Text.{admissionText, foundText, withdrawalText, normalityText};
+ghost use Rattle.sheets.specs.declared.withdrawal.Withdrawal.the-variants.{Written};
+ghost use Rattle.sheets.specs.declared.conversion.Conversion.the-variants.{Written as Converted};
+ghost use Rattle.answers.specs.Text.{admissionText, foundText, withdrawalText, conversionText, normalityText};
 ghost use Rattle.answers.specs.Text.{windowText, dateText, batchText, answerCount, AtStart};
 ghost use Rattle.answers.specs.Dates.{dateIn};
 ghost use Rattle.answers.specs.Room.{Within};
@@ -34,6 +40,12 @@ ghost use Rattle.answers.specs.Room.{Within};
 // What a withdrawal answers, and how many bytes its text has.
 pub struct WithdrawalReply {
     pub answer: Withdrawal,
+    pub count: usize,
+}
+
+// The same of a conversion.
+pub struct ConversionReply {
+    pub answer: Conversion,
     pub count: usize,
 }
 
@@ -91,7 +103,7 @@ pub fn withdrawal_reply(
     ensures answer { λ r. ⌜ r .answer ≡ withdrawSetOf (now (sheet .entry)) (now (set .entry)) 3072 (length (now (out .entry))) ⌝ }
     ensures written { λ _. ⌜ now (out .exit) ≡ setOutAfter (now (sheet .entry)) (now (set .entry)) 3072 (now (out .entry)) ⌝ }
     ensures kept { λ r. ⌜ KeepsTheUnlisted (now (sheet .entry)) (now (set .entry)) (now (out .exit)) (r .answer) ⌝ }
-    ensures within { λ r. ⌜ Within (length (now (out .entry))) (r .answer) ⌝ }
+    ensures within { λ r. ⌜ Within Written (length (now (out .entry))) (r .answer) ⌝ }
     ensures count { λ r. ⌜ Counts (r .count) (now (text .exit)) ⌝ }
     ensures text { λ r. ⌜ AtStart (withdrawalText (r .answer)) (now (text .entry)) (now (text .exit)) (r .count) ⌝ }
 {
@@ -99,6 +111,21 @@ pub fn withdrawal_reply(
     let answer = withdraw_set(sheet, set, &mut work, out);
     let count = put_withdrawal(answer, text);
     WithdrawalReply { answer, count }
+}
+
+// Converts a sheet to edition 3 likewise.
+pub fn conversion_reply(sheet: &[u8], out: &mut [u8], text: &mut [u8; 80]) -> ConversionReply
+    ensures answer { λ r. ⌜ r .answer ≡ convertOf (now (sheet .entry)) 3072 (length (now (out .entry))) ⌝ }
+    ensures written { λ _. ⌜ now (out .exit) ≡ convertedAfter (now (sheet .entry)) 3072 (now (out .entry)) ⌝ }
+    ensures kept { λ r. ⌜ KeepsEveryLine (now (sheet .entry)) (now (out .exit)) (r .answer) ⌝ }
+    ensures within { λ r. ⌜ Within Converted (length (now (out .entry))) (r .answer) ⌝ }
+    ensures count { λ r. ⌜ Counts (r .count) (now (text .exit)) ⌝ }
+    ensures text { λ r. ⌜ AtStart (conversionText (r .answer)) (now (text .entry)) (now (text .exit)) (r .count) ⌝ }
+{
+    let mut work = [0u32; 3072];
+    let answer = convert(sheet, &mut work, out);
+    let count = put_conversion(answer, text);
+    ConversionReply { answer, count }
 }
 
 // Says whether term `term` of a sheet is normal likewise.

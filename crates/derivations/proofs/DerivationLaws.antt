@@ -2,8 +2,8 @@
 -- 02, A5: edition 2 adds rules to those of edition 1; of edition 3 see MotivesStated. And induction along a derivation.
 -- Assumes nothing.
 use mathlib.Core.Path.{_≡_, refl, sym, _∙_, ap₂, subst}
-use mathlib.Core.Logic.{_↔_, ⊎-elim}
-use mathlib.Core.List.{List, [], _∷_, map, List·Memᴰ·head as here, List·Memᴰ·tail as there, List·Memᴰ·not-nil, List·Memᴰ·cases-cons, Memᴰ·cast}
+use mathlib.Core.Logic.{_↔_}
+use mathlib.Core.List.{List, [], _∷_, map, List·Memᴰ·head as here, List·Memᴰ·tail as there, Memᴰ·cast}
 use Prim.Native.Nat.{ℕ, zero, suc, _+_, _-_, _≤_, _<_}
 use native.Mathlib.Decide.{decLe}
 use native.Mathlib.Omega.{arith}
@@ -18,7 +18,7 @@ use Rattle.rules.proofs.TableFitsLaws.{row-fits}
 use Rattle.rules.proofs.EditionLaws.{row-known, row-own, row-motive}
 use Rattle.derivations.specs.Lists.{_∈_}
 use Rattle.derivations.specs.Derivation.{judgmentAt, Step, Derivation}
-use Rattle.derivations.proofs.ListLaws.{in-place, place-of}
+use Rattle.derivations.proofs.ListLaws.{of-places, in-place, place-of}
 
 -- an instance of a rule that the edition admits, with this conclusion, whose premises all stand in the list
 pub record Follows (edition : ℕ) (before : List Judgment) (conclusion : Judgment) : Type 0 where
@@ -28,12 +28,12 @@ pub record Follows (edition : ℕ) (before : List Judgment) (conclusion : Judgme
   pub stand : (p : Judgment) → p ∈ premises → p ∈ before
 
 module _ (js : List Judgment) (i : ℕ) (h : i < length js) where
-  pub place-in : (k : ℕ) → k < i → judgmentAt js k ∈ take i js
+  place-in : (k : ℕ) → k < i → judgmentAt js k ∈ take i js
   place-in k l = Memᴰ·cast (sym (getD-take i js k (wf []) l)) (in-place (take i js) k (wf []) (omega (arith, length-take-le i js (omega arith))))
 
   places-in : (places : List ℕ) → AllBelow i places → (p : Judgment) → p ∈ map (judgmentAt js) places → p ∈ take i js
-  places-in [] b p m = absurd (List·Memᴰ·not-nil m)
-  places-in (k ∷ places) b p m = ⊎-elim (λ e. Memᴰ·cast e (place-in k (b .0))) (λ n. places-in places (b .1) p n) (List·Memᴰ·cases-cons m)
+  places-in places b p m =
+      let at = of-places (judgmentAt js) i places b m in Memᴰ·cast (at .2) (place-in (at .0) (at .1))
 
   places-of : (ps : List Judgment) → ((p : Judgment) → p ∈ ps → p ∈ take i js) → (places : List ℕ) × AllBelow i places × (map (judgmentAt js) places ≡ ps)
   places-of [] s = ([], tt, refl)

@@ -17,3 +17,4 @@ pub mod SheetOf
 pub mod Complete
 pub mod Demand3Holds
 pub mod ScopesHold
+pub mod SheetsConvert

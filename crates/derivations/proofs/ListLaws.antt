@@ -3,11 +3,11 @@
 use mathlib.Core.Path.{_≡_, refl, sym, subst}
 use mathlib.Core.Logic.{⊎-elim}
 use mathlib.Core.Bool.{Bool, true, false}
-use mathlib.Core.List.{List, [], _∷_, flatMap, List·Memᴰ·head as here, List·Memᴰ·tail as there, List·Memᴰ·not-nil, List·Memᴰ·cases-cons, List·Memᴰ·append-cases, Memᴰ·append-left, Memᴰ·append-right}
+use mathlib.Core.List.{List, [], _∷_, map, flatMap, List·Memᴰ·head as here, List·Memᴰ·tail as there, List·Memᴰ·not-nil, List·Memᴰ·cases-cons, List·Memᴰ·append-cases, Memᴰ·append-left, Memᴰ·append-right}
 use Prim.Native.Nat.{ℕ, zero, suc, _<_}
 use native.Mathlib.Omega.{arith}
 use lib.ListN.{length, getD}
-use Rattle.terms.specs.Lists.{listed, selected}
+use Rattle.terms.specs.Lists.{AllBelow, listed, selected}
 use Rattle.terms.proofs.Tests.{never}
 use Rattle.derivations.specs.Lists.{_∈_}
 
@@ -29,6 +29,12 @@ module _ {A : Type 0} where
     where
       later : Among (λ i. f (suc i)) n x → Among f (suc n) x
       later a = (suc (a .0), omega (arith, a .1), a .2)
+
+  -- what stands at one of these places
+  pub of-places : (f : ℕ → A) (n : ℕ) (places : List ℕ) → AllBelow n places → {x : A} → x ∈ map f places → Among f n x
+  of-places f n [] b m = absurd (List·Memᴰ·not-nil m)
+  of-places f n (k ∷ places) b m =
+      ⊎-elim (λ e. (k, b .0, e)) (λ l. of-places f n places (b .1) l) (List·Memᴰ·cases-cons m)
 
   pub in-place : (l : List A) (i : ℕ) (d : A) → i < length l → getD l i d ∈ l
   in-place [] i d h = absurd (omega arith)

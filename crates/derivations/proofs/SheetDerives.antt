@@ -1,7 +1,7 @@
 -- Demand 3 (a): what an accepted sheet states is a derivation, and so is each beginning of it.
 -- Assumes nothing.
 use mathlib.Core.Path.{_≡_, sym, _∙_, ap, subst₂}
-use mathlib.Core.List.{List, []}
+use mathlib.Core.List.{List, [], map}
 use Prim.Native.Nat.{ℕ, suc, _≤_, _<_}
 use native.Mathlib.Omega.{arith}
 use lib.ListN.{length, take}
@@ -29,22 +29,30 @@ module _ {b : List ℕ} {T C L : ℕ} (g : Good b T C L) where
   pub stated-at : (i : ℕ) → i < L → judgmentAt (statedBy b) i ≡ statedAt b T C i
   stated-at i h = ap (λ js. judgmentAt js i) (stated-is g) ∙ listed-at (statedAt b T C) L i (wf []) h
 
-  cited-earlier : (i : ℕ) → i < L → AllBelow i (citedBy (lineAt b T C i))
+  pub cited-earlier : (i : ℕ) → i < L → AllBelow i (citedBy (lineAt b T C i))
   cited-earlier i h = cited-below (lineAt b T C i) i (good-cites g i h)
+
+  -- a line follows by its row from what stands at the lines that it cites
+  pub stated-follows : (i : ℕ) → i < L
+      → Instance (lineAt b T C i .rule) (map (judgmentAt (statedBy b)) (citedBy (lineAt b T C i)))
+      (judgmentAt (statedBy b) i)
+  unfolding LineFollows
+  stated-follows i h =
+      let l = lineAt b T C i in
+      subst₂ (Instance (l .rule))
+      (map-below (statedAt b T C) (judgmentAt (statedBy b)) i (citedBy l) (cited-earlier i h)
+      (λ m n. sym (stated-at m (omega arith)))) (sym (stated-at i h)) (g .lines i h .follows)
 
   -- the rule's number is the line's word, and its row in the sheet's edition is what the line is judged by
   pub stated-derivation : Derivation (editionOf b) (statedBy b)
-  unfolding LineFollows lineAt lineOf
+  unfolding lineAt lineOf
   stated-derivation i h =
       let k : i < L = omega (arith, stated-length) in
-      let l = lineAt b T C i in
       record {
         rule = lineWord (linesIn b T C) i 1;
-        places = citedBy l;
+        places = citedBy (lineAt b T C i);
         earlier = cited-earlier i k;
-        follows = subst₂ (Instance (l .rule))
-            (map-below (statedAt b T C) (judgmentAt (statedBy b)) i (citedBy l) (cited-earlier i k) (λ m n. sym (stated-at m (omega arith))))
-            (sym (stated-at i k)) (g .lines i k .follows);
+        follows = stated-follows i k;
       }
 
 -- each beginning of a derivation is one

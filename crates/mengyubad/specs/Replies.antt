@@ -12,6 +12,8 @@ use Rattle.sheets.specs.declared.batch.Batch.{Batch}
 use Rattle.sheets.specs.declared.batch.Batch.the-variants.{Answered, Refused as notAnswered}
 use Rattle.sheets.specs.declared.withdrawal.Withdrawal.{Withdrawal}
 use Rattle.sheets.specs.declared.withdrawal.Withdrawal.the-variants.{Written, Refused as notWritten}
+use Rattle.sheets.specs.declared.conversion.Conversion.{Conversion}
+use Rattle.sheets.specs.declared.conversion.Conversion.the-variants.{Written as Converted, Refused as notConverted}
 use Rattle.sheets.specs.declared.normality.Normality.{Normality}
 use Rattle.sheets.specs.declared.normality.Normality.the-variants.{Yes, No, Refused as noTerm}
 use Rattle.windows.specs.declared.dates.Date.{Date}
@@ -45,6 +47,11 @@ batchReply (notAnswered number place) = oneValue number place
 unfoldable pub withdrawalReply : Withdrawal → Reply
 withdrawalReply (Written length) = oneValue 0 length
 withdrawalReply (notWritten number place) = oneValue number place
+
+-- "It answers that length" (document 02, A11)
+unfoldable pub conversionReply : Conversion → Reply
+conversionReply (Converted length) = oneValue 0 length
+conversionReply (notConverted number place) = oneValue number place
 
 -- 1 for yes, 0 for no
 unfoldable pub normalityReply : Normality → Reply

@@ -5,6 +5,8 @@ use sheets::admission::Admission;
 use sheets::admission::admit;
 use sheets::batch::Batch;
 use sheets::batch::find_all_flat;
+use sheets::conversion::Conversion;
+use sheets::conversion::convert;
 use sheets::finding::Found;
 use sheets::finding::Wanted;
 use sheets::finding::find;
@@ -24,11 +26,13 @@ ghost use Rattle.sheets.specs.Finding.{findOf};
 ghost use Rattle.sheets.specs.Batch.{wantedOf, wantedIn, batchOf, answersAfter};
 ghost use Rattle.sheets.specs.Withdrawal.{withdrawOf, outAfter, KeepsTheOthers};
 ghost use Rattle.sheets.specs.WithdrawalSet.{withdrawSetOf, setOutAfter, KeepsTheUnlisted};
+ghost use Rattle.sheets.specs.Conversion.{convertOf, convertedAfter, KeepsEveryLine};
 ghost use Rattle.sheets.specs.Normality.{normalityOf};
 ghost use Rattle.windows.specs.Dates.{dayNumberOf};
 ghost use Rattle.windows.specs.Access.{windowOf, openOn};
 ghost use Rattle.mengyubad.specs.Replies.{oneValue, admissionReply, foundReply, batchReply, withdrawalReply};
-ghost use Rattle.mengyubad.specs.Replies.{normalityReply, dayReply, accessReply, dateFrom, Given};
+ghost use Rattle.mengyubad.specs.Replies.{conversionReply, normalityReply, dayReply, accessReply};
+ghost use Rattle.mengyubad.specs.Replies.{dateFrom, Given};
 
 // A number and three values.
 struct Reply {
@@ -92,6 +96,15 @@ fn withdrawal_reply(answer: Withdrawal) -> Reply
     match answer {
         Withdrawal::Refused { number, place } => single(number, place),
         Withdrawal::Written { length } => single(0, length),
+    }
+}
+
+fn conversion_reply(answer: Conversion) -> Reply
+    ensures { λ r. ⌜ r ≡ conversionReply answer ⌝ }
+{
+    match answer {
+        Conversion::Refused { number, place } => single(number, place),
+        Conversion::Written { length } => single(0, length),
     }
 }
 
@@ -239,6 +252,22 @@ pub extern "C" fn mengyubad_withdraw_set(
         withdrawal_reply(withdraw_set(sheet, lines, work, out)),
         values,
     )
+}
+
+// Writes a sheet in edition 3, where the lines of rules 33 and 34 cite their motives: the length, which stays.
+#[no_mangle]
+pub extern "C" fn mengyubad_convert(
+    sheet: &[u8],
+    work: &mut [u32],
+    out: &mut [u8],
+    values: &mut [usize; 3],
+) -> usize
+    ensures answer { λ r. ⌜ Given (conversionReply (convertOf (now (sheet .entry)) (length (now (work .entry))) (length (now (out .entry))))) r (now (values .exit)) ⌝ }
+    ensures left { λ _. ⌜ now (work .exit) ≡ workAfter (now (sheet .entry)) (now (work .entry)) ⌝ }
+    ensures written { λ _. ⌜ now (out .exit) ≡ convertedAfter (now (sheet .entry)) (length (now (work .entry))) (now (out .entry)) ⌝ }
+    ensures kept { λ _. ⌜ KeepsEveryLine (now (sheet .entry)) (now (out .exit)) (convertOf (now (sheet .entry)) (length (now (work .entry))) (length (now (out .entry)))) ⌝ }
+{
+    give(conversion_reply(convert(sheet, work, out)), values)
 }
 
 // Whether a term of a sheet is normal: 1 or 0.

@@ -74,7 +74,7 @@ below-selected count (true ∷ used) (n ∷ ns) h = (h 0 refl, below-selected co
 below-selected count (false ∷ used) (n ∷ ns) h = below-selected count used ns (λ k. h (suc k))
 
 module _ (termCount count : ℕ) where
-  subjects-below : (f : ℕ) (j : LineJudgment) → Numbered termCount count j → j .form ≡ f → AllBelow termCount (usedSubjects f j)
+  pub subjects-below : (f : ℕ) (j : LineJudgment) → Numbered termCount count j → j .form ≡ f → AllBelow termCount (usedSubjects f j)
   unfolding usedSubjects usesSubject
   subjects-below f j h e =
       subst (λ m. AllBelow termCount (usedSubjects m j)) e (below-selected termCount (subjectUse (j .form)) (subjectsOf j) (h .subjects))

@@ -19,6 +19,7 @@ pub mod RangeLaws
 pub mod RuleTableEntries
 pub mod EditionLaws
 pub mod MotiveLaws
+pub mod MotiveNumberLaws
 pub mod EmptyContextLaws
 pub mod ShapeLaws
 pub mod SubjectLaws

@@ -1,26 +1,85 @@
 -- Rules 33 and 34 with the motive: document 02, A10. They are the printed rules behind one premise more; which premises
--- each edition's rules have follows.
+-- each edition's rules have follows. That premise by computation, and by the numbers of the lines that state it.
 -- Assumes nothing.
-use mathlib.Core.Path.{_≡_, refl, sym, _∙_, ap, subst}
+use mathlib.Core.Path.{_≡_, refl, sym, _∙_, ap, subst, subst₂}
 use mathlib.Core.Logic.{_↔_, ⊎-elim}
+use mathlib.Core.Bool.{true, false}
 use mathlib.Core.List.{List, [], _∷_, List·Memᴰ, List·Memᴰ·head as here, List·Memᴰ·tail as there}
-use Prim.Native.Nat.{ℕ, _+_, _-_, _≤_, _<_}
+use Prim.Native.Nat.{ℕ, suc, _+_, _-_, _≤_, _<_}
 use native.Mathlib.Nat.{eq-or-lt-of-le}
 use native.Mathlib.Omega.{arith}
-use Rattle.terms.specs.Term.{nat}
+use Rattle.terms.specs.Term.{Term, univ, nat}
 use Rattle.terms.specs.Substitution.{onSucc}
-use Rattle.terms.specs.Tag.{child}
-use Rattle.rules.specs.Judgment.{Judgment, typed, form, contextOf, s1}
+use Rattle.terms.specs.Tag.{numberIn, child}
+use Rattle.terms.specs.Rows.{term}
+use Rattle.terms.specs.Decides.{Decides}
+use Rattle.terms.proofs.Tests.{says-yes, says-no, decides-via}
+use Rattle.rules.specs.Judgment.{Context, Judgment, typed, equal, form, contextOf, s1, s3, judgment?}
+use Rattle.rules.specs.Subjects.{lastForm}
+use Rattle.rules.specs.Conditions.{IsUniverse}
+use Rattle.rules.specs.Contexts.{context}
 use Rattle.rules.specs.Instance.{Instance, e-indzero, e-indsuc, e-indzero-cited, e-indsuc-cited}
 use Rattle.rules.specs.RuleTable.{premiseCount, formOf}
-use Rattle.rules.specs.Stated.{stated, Numbered, AllNumbered, usedPremises, Follows}
+use Rattle.rules.specs.Stated.{
+  plainJudgment,
+  statedIn,
+  stated,
+  Numbered,
+  AllNumbered,
+  usedPremises,
+  Follows,
+}
 use Rattle.rules.specs.RuleChecks.{LineInTables, JudgmentsInTables}
 use Rattle.rules.specs.declared.judgments.LineJudgment.{LineJudgment}
 use Rattle.rules.specs.Editions.{lastRule, AsksMotive, rowIn}
-use Rattle.rules.specs.Motives.{GivesMotive, WithMotive}
+use Rattle.rules.specs.Motives.{GivesMotive, givesMotive, WithMotive}
+use Rattle.rules.proofs.ArmLaws.{form-of}
 use Rattle.rules.proofs.EditionLaws.{row-motive, row-own, row-known}
 use Rattle.rules.proofs.TableFitsLaws.{row-fits}
 use Rattle.rules.proofs.PremiseLaws.{InContext}
+
+-- the motive's premise by computation: its level is the number in its type
+level-read : (p c : Judgment)
+    → (p ≡ typed (nat ∷ contextOf c) (child (s1 c) 1) (univ (numberIn (s3 p)))) ↔ GivesMotive p c
+unfolding s3 numberIn
+level-read p c = (λ e. (numberIn (s3 p), e), λ g. let e = g .1 in cc)
+
+pub says-gives : (p c : Judgment) → Decides (givesMotive p c) (GivesMotive p c)
+unfolding givesMotive
+says-gives p c = decides-via (level-read p c) (by (judgment? p _))
+  where
+    by : {P : Type 0} (d : Dec P) → Decides (elim d [ yes _ ↦ true | no _ ↦ false ]) P
+    by (yes h) = says-yes h
+    by (no h) = says-no h
+
+-- the premise by its context, its subject and its type
+by-parts : {G H : Context} {p₁ p₃ m : Term} (c₁ c₂ c₃ : Term) → m ≡ child c₁ 1
+    → (((H ≡ nat ∷ G) × (p₁ ≡ m)) × IsUniverse p₃) ↔ GivesMotive (typed H p₁ p₃) (equal G c₁ c₂ c₃)
+unfolding contextOf s1
+by-parts c₁ c₂ c₃ k = (λ h. let u = h .1 .1 in (h .1 .0, cc), λ g. let e = g .1 in ((cc, cc), (g .0, cc)))
+
+-- a line p that states it
+module _ (terms contexts : List ℕ) (p : LineJudgment) where
+  -- its parts as numbers state them, for the conclusion c and its motive m
+  abbrev pub MotiveParts : LineJudgment → Term → Type 0
+  MotiveParts c m =
+      ((context terms contexts (p .context) ≡ nat ∷ context terms contexts (c .context)) × (term terms (p .s1) ≡ m))
+      × IsUniverse (term terms (p .s3))
+
+  -- p of form 1 does so for c of form 2 by these
+  pub gives-parts : (c : LineJudgment) {m : Term} → p .form ≡ 1 → c .form ≡ 2 → m ≡ child (term terms (c .s1)) 1
+      → MotiveParts c m ↔ GivesMotive (stated terms contexts p) (stated terms contexts c)
+  unfolding stated plainJudgment
+  gives-parts c {m} e f k =
+      subst₂
+      (λ i j. MotiveParts c m
+      ↔ GivesMotive (statedIn terms i (context terms contexts (p .context)) p)
+      (statedIn terms j (context terms contexts (c .context)) c)) (sym e) (sym f) (by-parts _ _ _ k)
+
+  -- and p of no other form does
+  pub gives-form : (c : Judgment) → p .form ≤ lastForm → GivesMotive (stated terms contexts p) c → p .form ≡ 1
+  unfolding stated form
+  gives-form c low g = sym (form-of (p .form) _ _ _ _ low) ∙ ap form (g .1)
 
 -- an equal premise will do
 same-premise : (n : ℕ) {m k c : Judgment} {ps : List Judgment} → m ≡ k → Instance n (k ∷ ps) c → Instance n (m ∷ ps) c
@@ -57,6 +116,15 @@ either-rule P p q rule range =
     (λ low.
     let e : 33 ≡ rule = omega (arith, low, range) in
     subst P e p) (eq-or-lt-of-le (range .1))
+
+-- with the motive either has one premise more, and concludes the same form
+abbrev pub MotiveAdded : ℕ → Type 0
+MotiveAdded rule =
+    (premiseCount (rule + 35) ≡ suc (premiseCount rule)) × (premiseCount rule ≤ 3) × (formOf (rule + 35) ≡ formOf rule)
+
+pub motive-added : (rule : ℕ) → (33 ≤ rule) × (rule ≤ 34) → MotiveAdded rule
+unfolding premiseCount formOf
+motive-added = either-rule MotiveAdded (refl, omega arith, refl) (refl, omega arith, refl)
 
 -- by either as printed P is a type of the last premise's context
 abbrev pub EntersMotive : List Judgment → Judgment → Type 0

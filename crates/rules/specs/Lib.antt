@@ -11,3 +11,4 @@ pub mod Decision
 pub mod Contexts
 pub mod Stated
 pub mod RuleChecks
+pub mod MotiveNumbers

@@ -20,7 +20,7 @@ fn last_rule(edition: usize) -> usize
 }
 
 // Does the rule, 33 or 34, take the motive as its first premise in the edition?
-fn asks_motive(edition: usize, rule: usize) -> bool
+pub fn asks_motive(edition: usize, rule: usize) -> bool
     ensures { λ r. ⌜ r ≡ motiveAsked edition rule ⌝ }
 {
     (3 <= edition) & ((33 <= rule) & (rule <= 34))

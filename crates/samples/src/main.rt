@@ -3,8 +3,11 @@
 // stand one behind the other in one file, in the order of its list, where each has its length beside its name, and a
 // word such as `until_A12` behind it if the answer holds only until that request of document 02. The sheets that
 // withdrawals of sets are to leave are such a bundle too, without lengths: a line says whether the one that is left is
-// the one expected. A batch of searches is a line with a sheet, the room for answers and the number of judgments, which
-// follow it, a line each; every word of the buffer is written behind the answer.
+// the one expected. The sheets to convert are a bundle, and those that they become another: behind a sheet's length its
+// line has that of the new one, 0 if there is none, and the lengths of the outputs. Each conversion is a line of its
+// own, the new sheet is admitted and compared likewise, and a last line says whether the rest of the output is as it
+// was. A batch of searches is a line with a sheet, the room for answers and the number of judgments, which follow it, a
+// line each; every word of the buffer is written behind the answer.
 mod text;
 
 use crate::text::behind_lines;
@@ -23,6 +26,7 @@ use answers::numbers::request_of;
 use answers::parts::behind;
 use answers::parts::place_of;
 use answers::replies::admission_reply;
+use answers::replies::conversion_reply;
 use answers::replies::day_reply;
 use answers::replies::normality_reply;
 use answers::replies::search_reply;
@@ -31,6 +35,7 @@ use answers::replies::withdrawal_reply;
 use libc::STDOUT_FILENO;
 use sheets::batch::Batch;
 use sheets::batch::find_all_flat;
+use sheets::conversion::Conversion;
 use sheets::withdrawal::Withdrawal;
 ghost use Prim.Native.Nat.{_≤_};
 ghost use lib.ListN.{length};
@@ -46,6 +51,7 @@ enum Task {
     Normal,
     Bundled(i32),
     WithdrawSet(i32),
+    Convert { sheets: i32, results: i32 },
     Batch,
 }
 
@@ -143,14 +149,19 @@ fn withdraw_number(sheet: &[u8], line: &[u8]) {
     withdraw_lines(sheet, &set, &mut out[..room]);
 }
 
-// Says whether a sheet is the one that comes next in a bundle, which is read into a buffer of the sheet's length.
-fn compare_next(bundle: i32, sheet: &[u8], expected: &mut [u8]) {
-    let length = io::read_full(bundle, expected);
-    if same(sheet, &expected[..length]) {
+// Says whether these are the bytes expected.
+fn compare(got: &[u8], expected: &[u8]) {
+    if same(got, expected) {
         io::write_all(STDOUT_FILENO, b"as expected\n");
     } else {
         io::write_all(STDOUT_FILENO, b"not as expected\n");
     }
+}
+
+// Says whether a sheet is the one that comes next in a bundle, which is read into a buffer of the sheet's length.
+fn compare_next(bundle: i32, sheet: &[u8], expected: &mut [u8]) {
+    let length = io::read_full(bundle, expected);
+    compare(sheet, &expected[..length]);
 }
 
 // Withdraws a set of lines of a sheet likewise, and compares the sheet that is left.
@@ -171,6 +182,82 @@ fn withdraw_numbers(sheet: &[u8], line: &[u8], results: i32) {
     let room = length_in(line, 1);
     let mut out = [0u8; 52240];
     withdraw_compared(sheet, &set[..count], &mut out[..room], results);
+}
+
+// Converts a sheet, and admits the new one. Answers its length, and 0 if there is none.
+fn convert_sheet(sheet: &[u8], out: &mut [u8]) -> usize
+    ensures { λ r. ⌜ Counts r (now (out .exit)) ⌝ }
+{
+    let mut text = [0u8; 80];
+    let reply = conversion_reply(sheet, out, &mut text);
+    let count = reply.count;
+    io::write_all(STDOUT_FILENO, &text[..count]);
+    let answer = reply.answer;
+    if let Conversion::Written { length } = answer {
+        admit_whole(&out[..length]);
+        return length;
+    }
+    0
+}
+
+// Converts a sheet, and compares every byte of the output: with the new sheet as far as one is written, and behind it
+// with what was there before.
+fn convert_compared(sheet: &[u8], new: &[u8], before: &[u8], out: &mut [u8])
+    requires { ⌜ length (now out) ≤ length (now before) ⌝ }
+{
+    let length = convert_sheet(sheet, out);
+    if 0 < length {
+        compare(&out[..length], new);
+    }
+    compare(&out[length..], &before[length..]);
+}
+
+// The same, for an output of so many bytes. Bytes that are not written show.
+fn convert_into(sheet: &[u8], new: &[u8], room: usize) {
+    io::print_decimal(STDOUT_FILENO, room as u64);
+    io::write_all(STDOUT_FILENO, b" ");
+    if 65536 < room {
+        io::write_all(STDOUT_FILENO, b"unreadable\n");
+        return;
+    }
+    let before = [165u8; 65536];
+    let mut out = [165u8; 65536];
+    convert_compared(sheet, new, &before[..room], &mut out[..room]);
+}
+
+// The same, for outputs of these lengths.
+fn convert_each(sheet: &[u8], new: &[u8], rooms: &[usize]) {
+    let mut i = 0;
+    while i < rooms.len() {
+        convert_into(sheet, new, rooms[i]);
+        i += 1;
+    }
+}
+
+// Admits and converts the sheet that comes next in a bundle. The new one comes next among the results; both fill their
+// buffers.
+fn convert_next(bundle: i32, sheet: &mut [u8], results: i32, new: &mut [u8], rooms: &[usize]) {
+    let length = io::read_full(bundle, sheet);
+    let new_length = io::read_full(results, new);
+    admit_whole(&sheet[..length]);
+    convert_each(&sheet[..length], &new[..new_length], rooms);
+}
+
+// The same, with the lengths of a line of the list.
+fn convert_bundled(bundle: i32, results: i32, line: &[u8]) {
+    let length = length_in(line, 1);
+    let new_length = length_in(line, 2);
+    let mut rooms = [0usize; 4];
+    let count = numbers_from(line, 3, &mut rooms);
+    let mut sheet = [0u8; 52240];
+    let mut new = [0u8; 52240];
+    convert_next(
+        bundle,
+        &mut sheet[..length],
+        results,
+        &mut new[..new_length],
+        &rooms[..count],
+    );
 }
 
 // Says whether the term whose number a line of the list has is normal.
@@ -269,6 +356,7 @@ fn run_line(line: &[u8], task: Task) {
         Task::Window => ask_window(line),
         Task::Day => number_day(line),
         Task::Bundled(bundle) => admit_bundled(bundle, line),
+        Task::Convert { sheets, results } => convert_bundled(sheets, results, line),
         _ => run_sheet(line, task),
     }
 }
@@ -358,6 +446,17 @@ fn run_bundle(bundle: &[u8], list: &[u8]) {
     }
 }
 
+// Runs the list of conversions.
+fn run_conversions() {
+    let sheets = open_named(b"conversion.sheets");
+    let results = open_named(b"conversion.results");
+    if (0 <= sheets) & (0 <= results) {
+        run_list(b"conversion.list", Task::Convert { sheets, results });
+        libc::close(sheets);
+        libc::close(results);
+    }
+}
+
 fn main() {
     run_list(b"admit.list", Task::Admit);
     run_list(b"find.list", Task::Find);
@@ -374,4 +473,5 @@ fn main() {
     }
     run_list(b"batch.list", Task::Batch);
     run_list(b"batch_heights.list", Task::Batch);
+    run_conversions();
 }

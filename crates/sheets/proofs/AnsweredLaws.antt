@@ -1,5 +1,5 @@
--- Finding and withdrawal, for any sheet and work buffer: an answer is given exactly if it means what documents 01 and
--- 02 say, and the work buffer then holds what they say.
+-- Finding, withdrawal and conversion, for any sheet and work buffer: an answer is given exactly if it means what
+-- documents 01 and 02 say, and the work buffer then holds what they say.
 -- Assumes nothing.
 use mathlib.Core.Path.{_≡_, refl, sym, _∙_, subst}
 use mathlib.Core.Logic.{_↔_}
@@ -14,6 +14,9 @@ use Rattle.sheets.specs.declared.finding.Found.{Found}
 use Rattle.sheets.specs.declared.finding.Found.the-variants.{Line, Refused as notFound}
 use Rattle.sheets.specs.declared.withdrawal.Withdrawal.{Withdrawal}
 use Rattle.sheets.specs.declared.withdrawal.Withdrawal.the-variants.{Written, Refused}
+use Rattle.sheets.specs.declared.conversion.Conversion.{Conversion}
+use Rattle.sheets.specs.declared.conversion.Conversion.the-variants.{Written as Converted}
+use Rattle.sheets.specs.declared.conversion.Conversion.the-variants.{Refused as notConverted}
 use Rattle.sheets.specs.Layout.{trailerOf}
 use Rattle.sheets.specs.Admission.{admitOf, workAfter}
 use Rattle.sheets.specs.Good.{Good}
@@ -22,12 +25,15 @@ use Rattle.sheets.specs.Finding.{findOf}
 use Rattle.sheets.specs.Withdrawal.{withdrawOf, AdmittedWithdrawalMeans, missing, used, short}
 use Rattle.sheets.specs.WithdrawalSet.{withdrawSetOf, AdmittedSetMeans, notRising}
 use Rattle.sheets.specs.WithdrawalSet.{beyond, cited, tooShort, withdrawn}
+use Rattle.sheets.specs.Conversion.{convertOf, AdmittedConversionMeans, asksAlready, noMotive, noRoom, whole}
 use Rattle.sheets.specs.Answered.{FoundMeans, faulty, found, absent}
-use Rattle.sheets.specs.Answered.{AnswerMeans, unfit, admitted, WithdrawalMeans, SetWithdrawalMeans}
+use Rattle.sheets.specs.Answered.{AnswerMeans, unfit, admitted}
+use Rattle.sheets.specs.Answered.{WithdrawalMeans, SetWithdrawalMeans, ConversionMeans}
 use Rattle.sheets.proofs.AdmissionLaws.{accepted-is, refused-is, left-counted, left-wholly, fault-left}
 use Rattle.sheets.proofs.FindingLaws.{find-refused, found-is, missing-is, missing-only}
 use Rattle.sheets.proofs.WithdrawalLaws.{withdraw-refused, withdrawn-is}
 use Rattle.sheets.proofs.SetLaws.{set-refused, set-is}
+use Rattle.sheets.proofs.ConversionLaws.{convert-refused, convert-is}
 
 module _ (bytes : List ℕ) (work : ℕ) (w : Wanted) where
   on-found : (T C L : ℕ) → admitOf bytes work ≡ Accepted T C L → (a : Found) → findOf bytes work w ≡ a → FoundMeans bytes work w a
@@ -51,36 +57,43 @@ module _ (bytes : List ℕ) (work : ℕ) (w : Wanted) where
   pub find-is : (a : Found) → (findOf bytes work w ≡ a) ↔ FoundMeans bytes work w a
   find-is a = (λ e. subst (FoundMeans bytes work w) e (on-admission (admitOf bytes work) refl), back)
 
--- a withdrawal of any kind, which hands on what admission refuses
-module _ (bytes : List ℕ) (work : ℕ) (Admitted : ℕ → ℕ → ℕ → Withdrawal → Type 0) (answer : Withdrawal)
-    (handed : (number place : ℕ) → admitOf bytes work ≡ notAdmitted number place → answer ≡ Refused number place)
-    (asked : (T C L : ℕ) → admitOf bytes work ≡ Accepted T C L
-    → (a : Withdrawal) → (answer ≡ a) ↔ Admitted T C L a) where
-  on-answer : (a : Admission) → admitOf bytes work ≡ a → AnswerMeans bytes work Admitted answer
+-- an answer of any kind, which hands on what admission refuses
+module _ {A : Type 0} (refused : ℕ → ℕ → A) (bytes : List ℕ) (work : ℕ) (Admitted : ℕ → ℕ → ℕ → A → Type 0) (answer : A)
+    (handed : (number place : ℕ) → admitOf bytes work ≡ notAdmitted number place → answer ≡ refused number place)
+    (asked : (T C L : ℕ) → admitOf bytes work ≡ Accepted T C L → (a : A) → (answer ≡ a) ↔ Admitted T C L a) where
+  abbrev Means : A → Type 0
+  Means = AnswerMeans refused bytes work Admitted
+
+  on-answer : (a : Admission) → admitOf bytes work ≡ a → Means answer
   on-answer (notAdmitted number place) e =
-      subst (AnswerMeans bytes work Admitted) (sym (handed number place e))
-      (unfit (refused-is bytes work number place .0 e))
+      subst Means (sym (handed number place e)) (unfit (refused-is bytes work number place .0 e))
   on-answer (Accepted T C L) e =
       let g = accepted-is bytes work T C L .0 e in admitted (g .0) (g .1) (asked T C L e answer .0 refl)
 
-  answer-back : {a : Withdrawal} → AnswerMeans bytes work Admitted a → answer ≡ a
+  answer-back : {a : A} → Means a → answer ≡ a
   answer-back (unfit {number} {place} f) = handed number place (refused-is bytes work number place .1 f)
   answer-back (admitted {T} {C} {L} {a} g fits m) = asked T C L (accepted-is bytes work T C L .1 (g, fits)) a .1 m
 
-  answer-is : (a : Withdrawal) → (answer ≡ a) ↔ AnswerMeans bytes work Admitted a
-  answer-is a = (λ e. subst (AnswerMeans bytes work Admitted) e (on-answer (admitOf bytes work) refl), answer-back)
+  answer-is : (a : A) → (answer ≡ a) ↔ Means a
+  answer-is a = (λ e. subst Means e (on-answer (admitOf bytes work) refl), answer-back)
 
 pub withdrawal-is : (bytes : List ℕ) (work n room : ℕ) (a : Withdrawal)
     → (withdrawOf bytes n work room ≡ a) ↔ WithdrawalMeans bytes work n room a
 withdrawal-is bytes work n room =
-    answer-is bytes work (λ T C L. AdmittedWithdrawalMeans bytes T C L n room) (withdrawOf bytes n work room)
+    answer-is Refused bytes work (λ T C L. AdmittedWithdrawalMeans bytes T C L n room) (withdrawOf bytes n work room)
     (withdraw-refused bytes n work room) (withdrawn-is bytes n work room)
 
 pub set-withdrawal-is : (bytes : List ℕ) (work : ℕ) (set : List ℕ) (room : ℕ) (a : Withdrawal)
     → (withdrawSetOf bytes set work room ≡ a) ↔ SetWithdrawalMeans bytes work set room a
 set-withdrawal-is bytes work set room =
-    answer-is bytes work (λ T C L. AdmittedSetMeans bytes T C L set room) (withdrawSetOf bytes set work room)
+    answer-is Refused bytes work (λ T C L. AdmittedSetMeans bytes T C L set room) (withdrawSetOf bytes set work room)
     (set-refused bytes set work room) (set-is bytes set work room)
+
+pub conversion-is : (bytes : List ℕ) (work room : ℕ) (a : Conversion)
+    → (convertOf bytes work room ≡ a) ↔ ConversionMeans bytes work room a
+conversion-is bytes work room =
+    answer-is notConverted bytes work (λ T C L. AdmittedConversionMeans bytes T C L room) (convertOf bytes work room)
+    (convert-refused bytes work room) (convert-is bytes work room)
 
 -- a length that is answered is within the output
 pub set-written-fits : (bytes set : List ℕ) (work room l : ℕ) → withdrawSetOf bytes set work room ≡ Written l → l ≤ room
@@ -88,6 +101,12 @@ set-written-fits bytes set work room l e = at (set-withdrawal-is bytes work set 
   where
     at : {m : ℕ} → SetWithdrawalMeans bytes work set room (Written m) → m ≤ room
     at (admitted g fits (withdrawn rising all none k)) = k
+
+pub converted-fits : (bytes : List ℕ) (work room l : ℕ) → convertOf bytes work room ≡ Converted l → l ≤ room
+converted-fits bytes work room l e = at (conversion-is bytes work room (Converted l) .0 e)
+  where
+    at : {m : ℕ} → ConversionMeans bytes work room (Converted m) → m ≤ room
+    at (admitted g fits (whole early all k)) = k
 
 -- The work buffer: after a refusal it holds what the number says, all sizes from 8 on; after any other answer, all
 -- sizes. Once the sheet is accepted it makes no difference what is answered.
@@ -127,12 +146,12 @@ module _ (bytes before : List ℕ) where
   -- a withdrawal of any kind, whose own refusals have numbers from 11 on
   module _ (Admitted : ℕ → ℕ → ℕ → Withdrawal → Type 0) where
     refusal-left : ((T C L number place : ℕ) → Admitted T C L (Refused number place) → 11 ≤ number)
-        → {number place : ℕ} → AnswerMeans bytes (length before) Admitted (Refused number place)
+        → {number place : ℕ} → AnswerMeans Refused bytes (length before) Admitted (Refused number place)
         → RefusalLeaves number place
     refusal-left late (unfit f) = fault-left bytes before f
     refusal-left late (admitted g fits m) = later g fits _ _ (omega (arith, late _ _ _ _ _ m))
 
-    any-left : {new : ℕ} → AnswerMeans bytes (length before) Admitted (Written new) → AllSizes
+    any-left : {new : ℕ} → AnswerMeans Refused bytes (length before) Admitted (Written new) → AllSizes
     any-left (admitted g fits m) = all-sizes g fits
 
   module _ (n room : ℕ) where
@@ -179,3 +198,31 @@ module _ (bytes before : List ℕ) where
     set-written-left new e =
         any-left (λ T C L. AdmittedSetMeans bytes T C L set room)
         (set-withdrawal-is bytes (length before) set room (Written new) .0 e)
+
+  module _ (room : ℕ) where
+    -- after a refusal what the number says, after a length all sizes
+    Leaves : Conversion → Type 0
+    Leaves (notConverted number place) = RefusalLeaves number place
+    Leaves (Converted new) = AllSizes
+
+    leaves : {a : Conversion} → ConversionMeans bytes (length before) room a → Leaves a
+    unfolding Leaves
+    leaves (unfit f) = fault-left bytes before f
+    leaves (admitted g fits (asksAlready e)) = later g fits 20 0 (omega arith)
+    leaves (admitted g fits (noMotive {n} early m)) = later g fits 21 n (omega arith)
+    leaves (admitted g fits (noRoom early all k)) = later g fits 13 0 (omega arith)
+    leaves (admitted g fits (whole early all k)) = all-sizes g fits
+
+    pub conversion-work : (number place : ℕ) → convertOf bytes (length before) room ≡ notConverted number place
+        → RefusalLeaves number place
+    unfolding Leaves
+    conversion-work number place e = leaves (conversion-is bytes (length before) room (notConverted number place) .0 e)
+
+    -- after 20, 21 and 13 all sizes
+    pub conversion-sizes : (number place : ℕ) → convertOf bytes (length before) room ≡ notConverted number place
+        → 11 ≤ number → AllSizes
+    conversion-sizes number place e h = conversion-work number place e .wholly (omega arith)
+
+    pub converted-work : (new : ℕ) → convertOf bytes (length before) room ≡ Converted new → AllSizes
+    unfolding Leaves
+    converted-work new e = leaves (conversion-is bytes (length before) room (Converted new) .0 e)

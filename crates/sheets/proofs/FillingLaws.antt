@@ -1,18 +1,23 @@
 -- A buffer that is filled from its beginning: element by element, word by word, or part by part, each to the tail
--- behind what is written.
+-- behind what is written; and words that are written once more, some of them changed.
 -- Assumes nothing.
 use mathlib.Core.Path.{_≡_, refl, sym, _∙_, ap}
+use mathlib.Core.Bool.{true, false}
 use mathlib.Core.List.{List, [], _∷_, _++_, append-nil, append-assoc}
 use Prim.Native.Nat.{ℕ, zero, suc, _+_, _-_, _*_, _/_, _%_, _≤_, _<_}
 use native.Mathlib.Numerals.{add-one}
+use native.Mathlib.Decide.{decLt}
 use native.Mathlib.Omega.{arith}
-use lib.ListN.{length, getD, set, take, drop, length-append, length-drop, drop-of-length-le}
-use lib.Seq.{set-at, take-at, drop-at, drop-drop, drop-cons, take-suc, append-snoc, length-take-le}
+use lib.Dec.{ltb}
+use lib.ListN.{length, getD, set, take, drop, length-append, length-drop, length-set, drop-of-length-le}
+use lib.Seq.{set-at, set-append-left, take-at, drop-at, drop-drop, drop-cons, take-suc, append-snoc, length-take-le}
+use borrow.Author.Tests.{lt-ltb, le-ltb}
 use Rattle.terms.specs.Words.{bytesOf}
 use Rattle.terms.specs.Lists.{listed}
 use Rattle.terms.specs.Buffers.{over}
+use Rattle.sheets.specs.MotiveSteps.{withWord}
 use Rattle.sheets.proofs.ListedLaws.{listed-length, listed-next}
-use Rattle.sheets.proofs.BufferLaws.{over-length, part-to-end}
+use Rattle.sheets.proofs.BufferLaws.{over-length, over-again, part-to-end}
 use Rattle.sheets.proofs.SheetWithout.{listed-same}
 use Rattle.sheets.proofs.WrittenLaws.{written, written-length, written-next}
 
@@ -159,3 +164,123 @@ written-append f g (suc i) n same =
   where
     more : suc i + n ≡ suc (i + n)
     more = omega arith
+
+-- one of the words that are written is changed
+written-word : (f g : ℕ → ℕ) (n i w : ℕ) → i < n → w ≡ g i → ((k : ℕ) → k < n → (k ≡ i → ⊥) → f k ≡ g k)
+    → withWord (written f n) i w ≡ written g n
+unfolding bytesOf listed
+written-word f g zero i w h here others = absurd (omega arith)
+written-word f g (suc n) zero w h here others = λ j. here j % 256 ∷ here j / 256 ∷ rest j
+  where
+    rest : written (λ k. f (suc k)) n ≡ written (λ k. g (suc k)) n
+    rest =
+        ap bytesOf
+        (listed-same (λ k. f (suc k)) (λ k. g (suc k)) n (λ k l. others (suc k) (omega arith) (λ e. omega arith)))
+written-word f g (suc n) (suc i) w h here others =
+    let first : f 0 ≡ g 0 = others 0 (omega arith) (λ e. omega arith) in
+    let rest = written-word (λ k. f (suc k)) (λ k. g (suc k)) n i w (omega arith) here
+    (λ k l d. others (suc k) (omega arith) (λ e. d (omega arith))) in
+    (λ j. set (set (written f (suc n)) (low j) (w % 256)) (high j) (w / 256))
+    ∙ (λ j. first j % 256 ∷ first j / 256 ∷ rest j)
+  where
+    low : 2 * suc i ≡ suc (suc (2 * i))
+    low = omega arith
+
+    high : 2 * suc i + 1 ≡ suc (suc (2 * i + 1))
+    high = omega arith
+
+pub over-word : (f g : ℕ → ℕ) (before : List ℕ) (n i w : ℕ) → i < n → w ≡ g i
+    → ((k : ℕ) → k < n → (k ≡ i → ⊥) → f k ≡ g k)
+    → withWord (over (written f n) before) i w ≡ over (written g n) before
+over-word f g before n i w h here others =
+    ap (λ l. set l (2 * i + 1) (w / 256))
+    (set-append-left (written f n) rest (2 * i) (w % 256) (omega (arith, written-length f n)))
+    ∙ set-append-left (set (written f n) (2 * i) (w % 256)) rest (2 * i + 1) (w / 256)
+    (omega (arith, written-length f n, length-set (written f n) (2 * i) (w % 256)))
+    ∙ (λ j. written-word f g n i w h here others j ++ drop (same j) before)
+  where
+    rest : List ℕ
+    rest = drop (length (written f n)) before
+
+    same : length (written f n) ≡ length (written g n)
+    same = written-length f n ∙ sym (written-length g n)
+
+-- the words of g before word c, and those of f from there on
+pub changedTo : (ℕ → ℕ) → (ℕ → ℕ) → ℕ → ℕ → ℕ
+changedTo f g c k = elim (ltb k c) [ true ↦ g k | false ↦ f k ]
+
+module _ (f g : ℕ → ℕ) where
+  changed-new : (c k : ℕ) → k < c → changedTo f g c k ≡ g k
+  unfolding changedTo
+  changed-new c k h = rw (lt-ltb k c h, changedTo)
+
+  changed-old : (c k : ℕ) → c ≤ k → changedTo f g c k ≡ f k
+  unfolding changedTo
+  changed-old c k h = rw (le-ltb k c h, changedTo)
+
+  changed-same : (c d k : ℕ) → c ≤ d → (c ≤ k → k < d → f k ≡ g k) → changedTo f g c k ≡ changedTo f g d k
+  changed-same c d k h same = at (decLt k c) (decLt k d)
+    where
+      at : Dec (k < c) → Dec (k < d) → changedTo f g c k ≡ changedTo f g d k
+      at (yes l) m = changed-new c k l ∙ sym (changed-new d k (omega arith))
+      at (no l) (yes m) = changed-old c k (omega arith) ∙ same (omega arith) m ∙ sym (changed-new d k m)
+      at (no l) (no m) = changed-old c k (omega arith) ∙ sym (changed-old d k (omega arith))
+
+-- the words of f, which are written, are changed to those of g in order: those before word c are
+module _ (f g : ℕ → ℕ) (count : ℕ) (before : List ℕ) where
+  pub record Changing (out : List ℕ) (c : ℕ) : Type 0 where
+    pub within : c ≤ count
+    pub long : length out ≡ length before
+    pub words : out ≡ over (written (changedTo f g c) count) before
+
+  module _ (buffer : List ℕ) (start : before ≡ over (written f count) buffer) where
+    -- what is written over words that are written already
+    again : (h : ℕ → ℕ) → over (written h count) before ≡ over (written h count) buffer
+    again h =
+        ap (over (written h count)) start
+        ∙ over-again (written h count) (written f count) buffer (written-length f count ∙ sym (written-length h count))
+
+    pub changing-start : Changing before 0
+    changing-start =
+        record {
+          within = omega arith;
+          long = refl;
+          words =
+              start ∙ sym (again f)
+              ∙ ap (λ l. over (bytesOf l) before)
+              (listed-same f (changedTo f g 0) count (λ k h. sym (changed-old f g 0 k (omega arith))));
+        }
+
+    pub changing-end : {out : List ℕ} → Changing out count → out ≡ over (written g count) buffer
+    changing-end at =
+        at .words
+        ∙ ap (λ l. over (bytesOf l) before)
+        (listed-same (changedTo f g count) g count (λ k h. changed-new f g count k h)) ∙ again g
+
+  module _ {out : List ℕ} {c : ℕ} (at : Changing out c) where
+    -- where both have the same words nothing is to be written
+    pub changing-on : (d : ℕ) → c ≤ d → d ≤ count → ((k : ℕ) → c ≤ k → k < d → f k ≡ g k) → Changing out d
+    changing-on d h room same =
+        record {
+          within = room;
+          long = at .long;
+          words =
+              at .words
+              ∙ ap (λ l. over (bytesOf l) before)
+              (listed-same (changedTo f g c) (changedTo f g d) count (λ k l. changed-same f g c d k h (same k)));
+        }
+
+    -- the next word is written
+    pub changing-word : (i w : ℕ) → i ≡ c → i < count → w ≡ g i → Changing (withWord out i w) (suc i)
+    changing-word i w e h here =
+        record {
+          within = h;
+          long =
+              length-set (set out (2 * i) (w % 256)) (2 * i + 1) (w / 256) ∙ length-set out (2 * i) (w % 256)
+              ∙ at .long;
+          words =
+              ap (λ o. withWord o i w) (at .words)
+              ∙ over-word (changedTo f g c) (changedTo f g (suc i)) before count i w h
+              (here ∙ sym (changed-new f g (suc i) i (omega arith)))
+              (λ k l d. changed-same f g c (suc i) k (omega arith) (λ low high. absurd (d (omega arith))));
+        }

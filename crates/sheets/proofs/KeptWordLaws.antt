@@ -49,7 +49,7 @@ module _ (b : List ℕ) (t : Trailer) (below kept : List ℕ) (i : ℕ) where
   kept-trailer h k = rw (le-ltb i (startOf t) h, le-ltb i (endOf t) k, keptWord)
 
 -- a list of bytes, and the words of its beginning
-all-bytes : (l : List ℕ) → ((i : ℕ) → getD l i 0 < 256) → Bytes l
+pub all-bytes : (l : List ℕ) → ((i : ℕ) → getD l i 0 < 256) → Bytes l
 all-bytes [] h = tt
 all-bytes (x ∷ l) h = (h 0, all-bytes l (λ i. h (suc i)))
 

@@ -20,6 +20,23 @@ use Rattle.sheets.specs.declared.layout.Layout.the-variants.{Counted, Wr
 use Rattle.sheets.specs.Layout.{trailerWord, trailerOf, editionOf, toLines, toContexts, toTerms, lengthFits, markFits, limitsFit, distancesFit, countsFit, trailerAnswer, layoutOf}
 use Rattle.sheets.specs.GoodLayout.{trailerFor, LaidOut, RightLength, Marked, LayoutFault, wrongLength, notMarked, disagreeing, shortWork}
 
+-- a trailer whose words are those of these counts
+pub trailer-words : (s : List ℕ) (T C L : ℕ) → trailerWord s 0 ≡ T → trailerWord s 1 ≡ C → trailerWord s 2 ≡ L
+    → trailerWord s 4 ≡ toTerms T C L → trailerWord s 5 ≡ toContexts C L → trailerWord s 6 ≡ toLines L
+    → trailerWord s 7 ≡ 0x4C44 → trailerOf s ≡ trailerFor (editionOf s) T C L
+unfolding trailerOf trailerFor editionOf
+trailer-words s T C L e0 e1 e2 e4 e5 e6 e7 =
+    λ i. record {
+      terms = e0 i;
+      contexts = e1 i;
+      lines = e2 i;
+      edition = editionOf s;
+      «to_terms» = e4 i;
+      «to_contexts» = e5 i;
+      «to_lines» = e6 i;
+      mark = e7 i;
+    }
+
 pub length-says : (n : ℕ) → Decides (lengthFits n) ((16 ≤ n) × (n ≤ 52240))
 unfolding lengthFits
 length-says n = says-le 16 n & says-le n 52240

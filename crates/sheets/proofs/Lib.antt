@@ -1,4 +1,5 @@
 pub mod CasesHold
+pub mod ConversionCasesHold
 pub mod BufferLaws
 pub mod LayoutLaws
 pub mod LineLaws
@@ -20,6 +21,11 @@ pub mod WithdrawalLaws
 pub mod ListedLaws
 pub mod FillingLaws
 pub mod HeightArrayLaws
+pub mod MotiveLineLaws
+pub mod ConvertedWordLaws
+pub mod MotivesAddedLaws
+pub mod ConversionLaws
+pub mod ConversionAnswers
 pub mod AnsweredLaws
 pub mod BatchLaws
 pub mod OpeningLaws
@@ -38,4 +44,5 @@ pub mod KeptUseLaws
 pub mod LinesAwayLaws
 pub mod KeptWordLaws
 pub mod SetOutputLaws
+pub mod ConversionOutputLaws
 pub mod WalkPlaces

@@ -15,8 +15,9 @@ use Rattle.terms.proofs.Tests.{refuted, decides-via}
 use Rattle.terms.proofs.Shape.{below-or-last}
 use Rattle.terms.proofs.SearchLaws.{Ahead, ahead-start, ahead-end, ahead-ends, ahead-goes, good-goes, bad-ends}
 use Rattle.rules.specs.RuleTable.{ruleTable, IsRule, premiseCount}
-use Rattle.rules.specs.Stated.{Numbered, usedPremises, Follows}
-use Rattle.rules.specs.RuleChecks.{LineInTables}
+use Rattle.rules.specs.Contexts.{ContextsInTable}
+use Rattle.rules.specs.Stated.{Numbered, AllNumbered, usedPremises, Follows}
+use Rattle.rules.specs.RuleChecks.{LineInTables, JudgmentsInTables}
 use Rattle.rules.specs.declared.judgments.LineJudgment.{LineJudgment}
 use Rattle.rules.proofs.ArmLaws.{numbered-taken}
 use Rattle.sheets.specs.declared.lines.Line.{Line}
@@ -118,6 +119,25 @@ module _ (bytes : List ℕ) (T C count : ℕ) (tables : WellFormedTables bytes T
               good : GoodLine bytes T C n
               good = record { ok = ok-says .0 k; follows = d .0 z }
 
+-- the tables as crate rules asks for them
+unfoldable contexts-in-table : {bytes : List ℕ} {T C L : ℕ} → WellFormedTables bytes T C L
+    → ContextsInTable bytes (contextsIn bytes T) []
+contexts-in-table {T} {C} tables =
+    record {
+      termCount = T;
+      fewTerms = tables .laid .fewTerms;
+      termTable = tables .terms;
+      count = C;
+      few = tables .laid .fewContexts;
+      table = tables .contexts;
+      within = tt;
+    }
+
+pub judgments-in-tables : {bytes : List ℕ} {T C L : ℕ} → WellFormedTables bytes T C L
+    → (js : List LineJudgment) → AllNumbered T C js → JudgmentsInTables bytes (contextsIn bytes T) js
+unfolding contexts-in-table
+judgments-in-tables tables js numbered = record { given = contexts-in-table tables; numbered = numbered }
+
 -- `line_follows`: l is line n, p to s are what the lines state that its premise words name, and c is what it states
 -- itself
 module _ (bytes : List ℕ) (T C n : ℕ) (l : Line) (is : l ≡ lineAt bytes T C n) where
@@ -180,19 +200,11 @@ module _ (bytes : List ℕ) (T C n : ℕ) (l : Line) (before : GoodBefore bytes 
 
     -- what `is_instance` asks
     pub line-in-tables : LineInTables bytes rows (l .rule) (p ∷ q ∷ r ∷ s ∷ []) c
-    unfolding usedPremises premisesOf
+    unfolding usedPremises premisesOf contexts-in-table
     line-in-tables =
         subst (λ k. LineInTables bytes k (l .rule) (p ∷ q ∷ r ∷ s ∷ []) c) (sym er)
         (record {
-          given = record {
-            termCount = T;
-            fewTerms = before .tables .laid .fewTerms;
-            termTable = before .tables .terms;
-            count = C;
-            few = before .tables .laid .fewContexts;
-            table = before .tables .contexts;
-            within = tt;
-          };
+          given = contexts-in-table (before .tables);
           known = ok .rule;
           concludes = ap (λ x. x .form) ec ∙ ok .form;
           conclusion = subst (Numbered T C) (sym ec) (ok .numbers);

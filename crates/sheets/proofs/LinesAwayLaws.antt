@@ -46,12 +46,29 @@ left-of-words {b} {T} {C} {L} laid bytes [] =
     of-bytes b (linesStart T C + 10 * L + 8) bytes (omega (arith, laid .long))
 left-of-words laid bytes (n ∷ set) = of-written _ _
 
+-- what holds of each part of a sheet holds of all words
+pub by-part : (start L : ℕ) (P : ℕ → Type 0) → ((i : ℕ) → i < start → P i)
+    → ((n j : ℕ) → n < L → j < 10 → P (start + (10 * n + j))) → ((j : ℕ) → P (start + 10 * L + j)) → (i : ℕ) → P i
+by-part start L P tables lines trailer i = at (decLt i start) (decLt i (start + 10 * L))
+  where
+    at : Dec (i < start) → Dec (i < start + 10 * L) → P i
+    at (yes l) d = tables i l
+    at (no l) (yes m) =
+        let n = (i - start) / 10 in
+        let j = (i - start) % 10 in
+        let e : start + (10 * n + j) ≡ i = omega arith in
+        subst P e (lines n j (omega arith) (omega arith))
+    at (no l) (no m) =
+        let j = i - (start + 10 * L) in
+        let e : start + 10 * L + j ≡ i = omega arith in
+        subst P e (trailer j)
+
 -- where the words of lines and of the trailer stand in a sheet
 pub line-place : (s : List ℕ) (T C k j : ℕ) → lineWord (linesIn s T C) k j ≡ wordAt s (linesStart T C + (10 * k + j))
 unfolding lineWord linesIn
 line-place s T C k j = word-drop s (10 * T + 4 * C) (linesStart T C) (10 * k + j) (omega arith)
 
-trailer-place : (s : List ℕ) (T C L : ℕ) → LaidOut s T C L → (j : ℕ)
+pub trailer-place : (s : List ℕ) (T C L : ℕ) → LaidOut s T C L → (j : ℕ)
     → trailerWord s j ≡ wordAt s (linesStart T C + 10 * L + j)
 unfolding trailerWord
 trailer-place s T C L laid j = word-drop s (length s - 16) (linesStart T C + 10 * L) j (omega (arith, laid .long))
@@ -62,7 +79,7 @@ each-word P p0 p1 p2 p3 p4 p5 p6 p7 zero h = p0
 each-word P p0 p1 p2 p3 p4 p5 p6 p7 (suc j) h =
     each P 7 (((((((tt, p1), p2), p3), p4), p5), p6), p7) (suc j) (omega arith) (omega arith)
 
-trailer-read : (s : List ℕ) (j : ℕ) → j < 8 → trailerWord s j ≡ wordOfTrailer (trailerOf s) j
+pub trailer-read : (s : List ℕ) (j : ℕ) → j < 8 → trailerWord s j ≡ wordOfTrailer (trailerOf s) j
 unfolding trailerOf wordOfTrailer
 trailer-read s =
     each-word (λ j. trailerWord s j ≡ wordOfTrailer (trailerOf s) j) refl refl refl refl refl refl refl refl
@@ -120,19 +137,10 @@ module _ {old : List ℕ} {T C L : ℕ} {set : List ℕ} (rising : Rises set) (a
       at (no f) = x .premises k j within stays (omega arith) l ∙ sym (y .premises k j within stays (omega arith) l)
 
   pub same-word : (i : ℕ) → i < linesStart T C + 10 * (L - length set) + 8 → Same i
-  same-word i h = at (decLt i (linesStart T C)) (decLt i (linesStart T C + 10 * (L - length set)))
-    where
-      at : Dec (i < linesStart T C) → Dec (i < linesStart T C + 10 * (L - length set)) → Same i
-      at (yes l) d = x .tables i l ∙ sym (y .tables i l)
-      at (no l) (yes m) =
-          let k = (i - linesStart T C) / 10 in
-          let j = (i - linesStart T C) % 10 in
-          let e : linesStart T C + (10 * k + j) ≡ i = omega arith in
-          subst Same e (in-line k j (omega arith) (omega arith))
-      at (no l) (no m) =
-          let j = i - (linesStart T C + 10 * (L - length set)) in
-          let e : linesStart T C + 10 * (L - length set) + j ≡ i = omega arith in
-          subst Same e (x .trailer j (omega arith) ∙ sym (y .trailer j (omega arith)))
+  same-word =
+      by-part (linesStart T C) (L - length set) (λ i. i < linesStart T C + 10 * (L - length set) + 8 → Same i)
+      (λ i l _. x .tables i l ∙ sym (y .tables i l)) (λ m j h l _. in-line m j h l)
+      (λ j h. x .trailer j (omega arith) ∙ sym (y .trailer j (omega arith)))
 
 -- two sheets that are the old one without the listed lines are one
 pub same-away : {old s t : List ℕ} {T C L : ℕ} {set : List ℕ} → Rises set → AllLines L set → OfWords s → OfWords t

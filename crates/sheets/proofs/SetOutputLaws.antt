@@ -1,11 +1,10 @@
 -- The output after a withdrawal of a set is what document 02 says, for any sheet, set and buffers; no other bytes are.
 -- Assumes nothing.
-use mathlib.Core.Path.{_≡_, refl, sym, _∙_, ap, ap₂, subst}
-use mathlib.Core.List.{List, [], _∷_, _++_}
+use mathlib.Core.Path.{_≡_, refl, sym, _∙_, ap, subst}
+use mathlib.Core.List.{List, [], _∷_}
 use Prim.Native.Nat.{ℕ, zero, suc, _+_, _-_, _*_, _≤_}
 use native.Mathlib.Omega.{arith}
-use lib.ListN.{length, take, drop, take-append-drop, length-drop}
-use lib.Seq.{getD-drop, ext-getD}
+use lib.ListN.{length, take}
 use Rattle.terms.specs.Buffers.{over}
 use Rattle.sheets.specs.declared.layout.Trailer.{Trailer}
 use Rattle.sheets.specs.declared.withdrawal.Withdrawal.{Withdrawal}
@@ -18,14 +17,14 @@ use Rattle.sheets.specs.Withdrawal.{linesStart, outFrom}
 use Rattle.sheets.specs.WithdrawalSet.{keptLength, withdrawSetOf, withoutLines, setOutAfter, AllLines, withdrawn}
 use Rattle.sheets.specs.SetOutput.{LinesAway, SetWrittenLeft, SetOutputLeft}
 use Rattle.sheets.specs.Answered.{SetWithdrawalMeans, admitted}
-use Rattle.sheets.proofs.BufferLaws.{over-length, over-beyond}
+use Rattle.sheets.proofs.BufferLaws.{over-length, over-beyond, over-only}
 use Rattle.sheets.proofs.LineSetLaws.{few-listed}
 use Rattle.sheets.proofs.LinesWithout.{lines-away}
 use Rattle.sheets.proofs.SetLaws.{left-long, sheet-left}
 use Rattle.sheets.proofs.AnsweredLaws.{set-withdrawal-is}
 use Rattle.sheets.proofs.LinesAwayLaws.{OfWords, of-bytes, same-away, left-of-words}
 
-bytes-taken : (k : ℕ) (l : List ℕ) → Bytes l → Bytes (take k l)
+pub bytes-taken : (k : ℕ) (l : List ℕ) → Bytes l → Bytes (take k l)
 bytes-taken zero l b = tt
 bytes-taken (suc k) [] b = tt
 bytes-taken (suc k) (x ∷ l) b = (b .0, bytes-taken k l (b .1))
@@ -61,7 +60,7 @@ module _ {bytes : List ℕ} {T C L : ℕ} (g : Good bytes T C L) (set : List ℕ
       → SetWrittenLeft bytes set before after (keptLength T C L set) → after ≡ over (withoutLines bytes set) before
   unfolding trailerFor
   left-only words after b o =
-      sym (take-append-drop new after) ∙ ap₂ _++_ head (rest ∙ ap (λ m. drop m before) (sym size))
+      over-only (withoutLines bytes set) before after new size head (o .long) (o .beyond)
     where
       new : ℕ
       new = keptLength T C L set
@@ -75,12 +74,6 @@ module _ {bytes : List ℕ} {T C L : ℕ} (g : Good bytes T C L) (set : List ℕ
           (of-bytes (take new after) (linesStart T C + 10 * (L - length set) + 8) (bytes-taken new after b)
           (omega (arith, taken .laid .long)))
           words taken away
-
-      rest : drop new after ≡ drop new before
-      rest =
-          ext-getD 0 (drop new after) (drop new before)
-          (length-drop new after ∙ ap (λ m. m - new) (o .long) ∙ sym (length-drop new before))
-          (λ i h. getD-drop new after i 0 ∙ o .beyond (new + i) (omega arith) ∙ sym (getD-drop new before i 0))
 
 module _ (bytes set : List ℕ) (work : ℕ) (before : List ℕ) where
   abbrev Means : Withdrawal → Type 0

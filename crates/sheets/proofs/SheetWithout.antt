@@ -31,6 +31,7 @@ use Rattle.sheets.specs.Withdrawal.{Uses, Unused, lowerPremise, lowered,
 use Rattle.sheets.specs.Withdrawal.{linesStart, linesEnd, sheetWithout}
 use Rattle.sheets.specs.Output.{MovedLine}
 use Rattle.sheets.specs.LineSets.{numberBefore}
+use Rattle.sheets.proofs.LayoutLaws.{trailer-words}
 use Rattle.sheets.proofs.LineNumberLaws.{before-below, before-behind, lower-upto, before-lower, lower-below}
 use Rattle.sheets.proofs.WrittenLaws.{written-length, word-written, word-drop}
 use Rattle.sheets.proofs.SameTables.{terms-same, contexts-same, stated-same}
@@ -51,7 +52,7 @@ module _ {A : Type 0} where
   listed-without (suc n) f zero h = absurd (omega arith)
   listed-without (suc n) f (suc l) h = ap (λ r. f 0 ∷ r) (listed-without n (λ i. f (suc i)) l (omega arith))
 
-  map-taken : (f g : ℕ → A) (d : ℕ → ℕ) (c : ℕ) (l : List ℕ)
+  pub map-taken : (f g : ℕ → A) (d : ℕ → ℕ) (c : ℕ) (l : List ℕ)
       → ((j : ℕ) → j < length l → j < c → f (getD l j 0) ≡ g (d (getD l j 0)))
       → map f (take c l) ≡ map g (take c (map d l))
   map-taken f g d zero l h = refl
@@ -190,23 +191,10 @@ module _ (b : List ℕ) (T C L n : ℕ) (old : LaidOut b T C L) (there : n < L) 
       let e5 : trailerWord b 5 ≡ toContexts C L = ap (λ r. r .«to_contexts») t in
       let e6 : trailerWord b 6 ≡ toLines L = ap (λ r. r .«to_lines») t in
       let e7 : trailerWord b 7 ≡ 0x4C44 = ap (λ r. r .mark) t in
-      let f0 : trailerWord new 0 ≡ T = omega (arith, trailer-word 0 0 (omega arith) refl) in
-      let f1 : trailerWord new 1 ≡ C = omega (arith, trailer-word 1 0 (omega arith) refl) in
-      let f2 : trailerWord new 2 ≡ L - 1 = omega (arith, trailer-word 2 1 (omega arith) refl) in
-      let f4 : trailerWord new 4 ≡ toTerms T C (L - 1) = omega (arith, trailer-word 4 20 (omega arith) refl) in
-      let f5 : trailerWord new 5 ≡ toContexts C (L - 1) = omega (arith, trailer-word 5 20 (omega arith) refl) in
-      let f6 : trailerWord new 6 ≡ toLines (L - 1) = omega (arith, trailer-word 6 20 (omega arith) refl) in
-      let f7 : trailerWord new 7 ≡ 0x4C44 = omega (arith, trailer-word 7 0 (omega arith) refl) in
-      λ i. record {
-        terms = f0 i;
-        contexts = f1 i;
-        lines = f2 i;
-        edition = editionOf new;
-        «to_terms» = f4 i;
-        «to_contexts» = f5 i;
-        «to_lines» = f6 i;
-        mark = f7 i;
-      }
+      trailer-words new T C (L - 1) (omega (arith, trailer-word 0 0 (omega arith) refl))
+      (omega (arith, trailer-word 1 0 (omega arith) refl)) (omega (arith, trailer-word 2 1 (omega arith) refl))
+      (omega (arith, trailer-word 4 20 (omega arith) refl)) (omega (arith, trailer-word 5 20 (omega arith) refl))
+      (omega (arith, trailer-word 6 20 (omega arith) refl)) (omega (arith, trailer-word 7 0 (omega arith) refl))
 
   pub laid : LaidOut new T C (L - 1)
   laid =

@@ -2,7 +2,7 @@
 -- Assumes nothing.
 use mathlib.Core.Path.{_≡_, refl, sym, subst}
 use mathlib.Core.Logic.{_↔_}
-use mathlib.Core.Bool.{not}
+use mathlib.Core.Bool.{_&&_, not}
 use mathlib.Core.List.{List}
 use Prim.Native.Nat.{ℕ, suc, _+_, _-_, _≤_, _<_}
 use native.Mathlib.Omega.{arith}
@@ -10,8 +10,10 @@ use borrow.Author.Tests.{not-true}
 use Rattle.terms.specs.Decides.{Decides}
 use Rattle.terms.proofs.Tests.{says-lt, refuted, refutes, _&_}
 use Rattle.terms.proofs.SearchLaws.{Between, stops, passes, search-means, FirstOf, first-tells}
+use Rattle.terms.proofs.SearchLaws.{first-holds, first-found, first-at}
 use Rattle.sheets.specs.Lines.{lineOf}
 use Rattle.sheets.specs.LineSets.{isListed, Listed, Stays}
+use Rattle.sheets.specs.Withdrawal.{uses}
 use Rattle.sheets.specs.WithdrawalSet.{firstKeptUse, keptUse, AllLines, KeptUses, HighestUsed, NoneUsed}
 use Rattle.sheets.proofs.LineSetLaws.{listed-says}
 use Rattle.sheets.proofs.WithdrawalLaws.{uses-says}
@@ -38,30 +40,21 @@ module _ (edition : ℕ) (lines : List ℕ) (L : ℕ) (set : List ℕ) where
   abbrev lowest : ℕ → ℕ
   lowest = firstKeptUse edition lines L set
 
-  lowest-means : (n p : ℕ) → (lowest n ≡ p) ↔ FirstOf (UsedBy n) (λ k. k) L 0 L p
-  unfolding firstKeptUse
-  lowest-means n =
-      search-means
-      (first-tells (UsedBy n) (λ k. k) (λ k. stays-says set k & uses-says (lineOf edition lines k) n))
-      L L 0 L (omega arith)
+  says-used : (n k : ℕ) → Decides (not (isListed set k) && uses (lineOf edition lines k) n) (UsedBy n k)
+  says-used n k = stays-says set k & uses-says (lineOf edition lines k) n
 
   -- it is below L exactly if there is one, and that one it is
   lowest-uses : (n : ℕ) → lowest n < L → UsedBy n (lowest n) × ((k : ℕ) → k < lowest n → UsedBy n k → ⊥)
-  lowest-uses n l = from (lowest-means n (lowest n) .0 refl)
-    where
-      from : FirstOf (UsedBy n) (λ k. k) L 0 L (lowest n)
-          → UsedBy n (lowest n) × ((k : ℕ) → k < lowest n → UsedBy n k → ⊥)
-      from (stops p low high before x) =
-          subst (λ q. UsedBy n q × ((k : ℕ) → k < q → UsedBy n k → ⊥)) (sym (x .1))
-          (x .0, λ k h. before k (omega arith) h)
-      from (passes all e) = absurd (omega arith)
+  unfolding firstKeptUse
+  lowest-uses n l = first-holds (UsedBy n) (says-used n) L l
 
   lowest-within : (n k : ℕ) → k < L → UsedBy n k → lowest n < L
-  lowest-within n k h u = from (lowest-means n (lowest n) .0 refl)
-    where
-      from : FirstOf (UsedBy n) (λ k. k) L 0 L (lowest n) → lowest n < L
-      from (stops p low high before x) = omega (arith, x .1)
-      from (passes all e) = absurd (all k (omega arith) h u)
+  unfolding firstKeptUse
+  lowest-within n k h u = first-found (UsedBy n) (says-used n) L k h u
+
+  lowest-at : (n p : ℕ) → p < L → UsedBy n p → ((k : ℕ) → k < p → UsedBy n k → ⊥) → lowest n ≡ p
+  unfolding firstKeptUse
+  lowest-at n p h u least = first-at (UsedBy n) (says-used n) L p h u least
 
   not-within : (n : ℕ) → ((k : ℕ) → k < L → UsedBy n k → ⊥) → lowest n < L → ⊥
   not-within n none l = none (lowest n) l (lowest-uses n l .0)
@@ -135,7 +128,7 @@ module _ (edition : ℕ) (lines : List ℕ) (L : ℕ) (set : List ℕ) where
         place = omega (arith, within)
 
         here : lowest n ≡ p
-        here = lowest-means n p .1 (stops p (omega arith) (u .within) (λ k _ h. u .lowest k h) (u .uses, refl))
+        here = lowest-at n p (u .within) (u .uses) (u .lowest)
 
         before : Between (λ j. ListedUsed (L - suc j) → ⊥) 0 (L - suc n)
         before j _ h x = not-within (L - suc j) (u .highest (L - suc j) (omega arith) (x .0)) (x .1)

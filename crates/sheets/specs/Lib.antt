@@ -16,6 +16,9 @@ pub mod Output
 pub mod LineSets
 pub mod Numbering
 pub mod WithdrawalSet
+pub mod Conversion
+pub mod ConversionOutput
+pub mod MotiveSteps
 pub mod Answered
 pub mod Batch
 pub mod Opening
@@ -25,3 +28,4 @@ pub mod KeptWords
 pub mod ListedUses
 pub mod Normality
 pub mod Cases
+pub mod ConversionCases

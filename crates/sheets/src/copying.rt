@@ -1,4 +1,4 @@
-// Writing a sheet without some of its lines.
+// Writing a sheet: bytes, words, and a sheet without some of its lines.
 use crate::layout::Trailer;
 use terms::words::word_at;
 ghost use mathlib.Core.Path.{_≡_};
@@ -31,7 +31,7 @@ pub fn trailer_for(edition: usize, terms: usize, contexts: usize, lines: usize) 
 }
 
 // Copies the first `count` bytes.
-fn copy_bytes(sheet: &[u8], count: usize, out: &mut [u8])
+pub fn copy_bytes(sheet: &[u8], count: usize, out: &mut [u8])
     requires { ⌜ (count ≤ length (now sheet)) × (count ≤ length (now out)) ⌝ }
     ensures { λ _. ⌜ now (out .exit) ≡ over (take count (now (sheet .entry))) (now (out .entry)) ⌝ }
 {
@@ -43,7 +43,7 @@ fn copy_bytes(sheet: &[u8], count: usize, out: &mut [u8])
 }
 
 // Writes `w` as word `i`.
-fn put_word(out: &mut [u8], i: usize, w: usize)
+pub fn put_word(out: &mut [u8], i: usize, w: usize)
     requires { ⌜ (2 * i + 1 < length (now out)) × (w < 65536) ⌝ }
     ensures { λ _. ⌜ now (out .exit) ≡ set (set (now (out .entry)) (2 * i) (w % 256)) (2 * i + 1) (w / 256) ⌝ }
 {

@@ -11,7 +11,8 @@ ghost use Rattle.sheets.specs.Easiest.{better as betterOf};
 ghost use Rattle.sheets.specs.SearchSteps.{heightsOf, lineBelow};
 ghost use Rattle.sheets.specs.Finding.{hasNumbers, searchLines};
 
-fn wide(number: u32) -> usize
+// A function, since the range of a parameter is known, and that of an element read through a reference is not.
+pub fn wide(number: u32) -> usize
     ensures { λ r. ⌜ r ≡ number ⌝ }
 {
     number as usize

@@ -181,3 +181,51 @@ module _ {A : Type 0} (P : ℕ → Type 0) (answer : ℕ → A) where
       on : (n : ℕ) (b : Bool) → Decides b (P n) → After (λ a. P n × (a ≡ answer n)) (λ _. P n → ⊥) (endsIf b (answer n))
       on n true d = (d .0 refl, refl)
       on n false d = refuted d refl
+
+-- two tests that answer alike at every place of the range have one first place
+module _ {A : Type 0} (s t : ℕ → Bool) (answer : ℕ → A) (none : A) where
+  pub first-same : (more n : ℕ) → Between (λ k. s k ≡ t k) n (n + more)
+      → firstAt s answer none more n ≡ firstAt t answer none more n
+  unfolding searchFrom
+  first-same zero n same = refl
+  first-same (suc more) n same =
+      let rest = first-same more (suc n) (λ k low high. same k (omega arith) (omega arith)) in
+      let here = same n (omega arith) (omega arith) in
+      λ i. elim (endsIf (here i) (answer n)) [ ends a ↦ a | goes _ ↦ rest i ]
+
+-- the first of the places before `end` of which P holds is answered by its number, and none by `end`
+module _ (P : ℕ → Type 0) {test : ℕ → Bool} (says : (n : ℕ) → Decides (test n) (P n)) (end : ℕ) where
+  abbrev first : ℕ
+  first = firstAt test (λ k. k) end end 0
+
+  first-means : (p : ℕ) → (first ≡ p) ↔ FirstOf P (λ k. k) end 0 end p
+  first-means = search-means (first-tells P (λ k. k) says) end end 0 end (omega arith)
+
+  pub first-most : first ≤ end
+  first-most = from (first-means first .0 refl)
+    where
+      from : FirstOf P (λ k. k) end 0 end first → first ≤ end
+      from (stops p low high before x) = omega (arith, x .1)
+      from (passes all e) = omega (arith, e)
+
+  -- it is below `end` exactly if there is such a place, and that one it is
+  pub first-holds : first < end → P first × ((k : ℕ) → k < first → P k → ⊥)
+  first-holds l = from (first-means first .0 refl)
+    where
+      from : FirstOf P (λ k. k) end 0 end first → P first × ((k : ℕ) → k < first → P k → ⊥)
+      from (stops p low high before x) =
+          subst (λ q. P q × ((k : ℕ) → k < q → P k → ⊥)) (sym (x .1)) (x .0, λ k h. before k (omega arith) h)
+      from (passes all e) = absurd (omega arith)
+
+  pub first-found : (k : ℕ) → k < end → P k → first < end
+  first-found k h p = from (first-means first .0 refl)
+    where
+      from : FirstOf P (λ k. k) end 0 end first → first < end
+      from (stops q low high before x) = omega (arith, x .1)
+      from (passes all e) = absurd (all k (omega arith) h p)
+
+  pub first-at : (k : ℕ) → k < end → P k → ((m : ℕ) → m < k → P m → ⊥) → first ≡ k
+  first-at k h p lowest = first-means k .1 (stops k (omega arith) h (λ m _ l. lowest m l) (p, refl))
+
+  pub first-none : ((k : ℕ) → k < end → P k → ⊥) → first ≡ end
+  first-none none = first-means end .1 (passes (λ k _ h. none k h) refl)

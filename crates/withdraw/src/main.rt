@@ -4,6 +4,7 @@
 use answers::input::read_sheet;
 use answers::numbers::Reading;
 use answers::numbers::read_number;
+use answers::output::make_file;
 use answers::replies::withdrawal_reply;
 use libc::STDERR_FILENO;
 use libc::STDIN_FILENO;
@@ -28,23 +29,6 @@ fn read_lines(set: &mut [usize]) -> bool {
         i += 1;
     }
     true
-}
-
-// Makes a file that holds these bytes, and answers whether it could. A file that was cut short is removed.
-fn make_file(path: &[u8], bytes: &[u8]) -> bool {
-    let fd = os::create(path);
-    if fd < 0 {
-        os::fail(path);
-        return false;
-    }
-    let whole = io::write_all(fd, bytes);
-    let closed = libc::close(fd);
-    if whole & (closed == 0) {
-        return true;
-    }
-    os::fail(path);
-    os::unlink(path);
-    false
 }
 
 // Withdraws the lines of a set, and makes the new file before it says so.

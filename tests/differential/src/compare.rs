@@ -1,5 +1,6 @@
 //! Calls the reference and the proved library with equal arguments and compares all that they leave.
 
+use crate::conversions::fault;
 use crate::coverage::Coverage;
 use crate::generate::judgments::{some_batch, some_judgment};
 use crate::generate::lists::some_list;
@@ -17,6 +18,7 @@ pub enum Call<'a> {
     FindAll(&'a [u32]),
     Withdraw(usize),
     WithdrawSet(&'a [usize]),
+    Convert,
     Normal(usize),
 }
 
@@ -36,7 +38,7 @@ pub struct Outcome {
 }
 
 impl Outcome {
-    /// The sheet that a withdrawal wrote.
+    /// The sheet that the call wrote.
     pub fn written(&self) -> &[u8] {
         &self.buffers.out[..self.answer.values[0]]
     }
@@ -53,8 +55,8 @@ struct Comparer<'a> {
     random: &'a mut Random,
     coverage: &'a mut Coverage,
     differences: Vec<String>,
-    /// What a withdrawal wrote.
-    withdrawn: Option<Vec<u8>>,
+    /// The sheet that a call wrote.
+    written: Option<Vec<u8>>,
 }
 
 /// Compares the calls on one sheet, with buffers of several lengths and random contents. The differences, as text.
@@ -67,7 +69,7 @@ pub fn compare(sheet: &[u8], random: &mut Random, coverage: &mut Coverage) -> Ve
         random,
         coverage,
         differences: Vec::new(),
-        withdrawn: None,
+        written: None,
     };
     comparer.compare_admissions();
     match reading.counts.filter(|_| reading.refusal.is_none()) {
@@ -103,12 +105,13 @@ impl Comparer<'_> {
             } else {
                 self.random.below(terms)
             };
-            let call = match self.random.below(7) {
+            let call = match self.random.below(8) {
                 0 => Call::Find([0; 5]),
                 1 => Call::Withdraw(0),
                 2 => Call::WithdrawSet(&[0, 0]),
                 3 => Call::Normal(self.number(terms)),
                 4 => Call::FindAll(&[0; 5]),
+                5 => Call::Convert,
                 _ => Call::Admit,
             };
             let room = self.random.pick(&[0, self.sheet.len()]).unwrap_or(0);
@@ -118,6 +121,8 @@ impl Comparer<'_> {
 
     fn compare_on_refused(&mut self) {
         let length = self.work_length();
+        let out = self.out_length(0);
+        self.compare_call(Call::Convert, length, out);
         match self.random.below(5) {
             0 => self.compare_call(Call::Find([0, 0, 0, 0, 0]), length, 0),
             1 => {
@@ -147,9 +152,11 @@ impl Comparer<'_> {
         self.compare_searches(counts);
         self.compare_batches(counts);
         self.compare_withdrawals(counts);
-        self.compare_withdrawn();
+        self.compare_written();
         self.compare_sets(counts);
-        self.compare_withdrawn();
+        self.compare_written();
+        self.compare_conversions(counts);
+        self.compare_written();
         self.compare_terms(counts);
     }
 
@@ -188,6 +195,21 @@ impl Comparer<'_> {
         }
     }
 
+    /// With an output that is just long enough, one byte short, empty, and longer.
+    fn compare_conversions(&mut self, counts: Counts) {
+        let enough = self.sheet.len();
+        let longer = enough + 1 + self.random.below(50);
+        for out in [enough, enough - 1, 0, longer] {
+            let length = self.work_length();
+            self.compare_call(Call::Convert, length, out);
+        }
+        if let Some(new) = &self.written {
+            self.coverage.add_converted(self.sheet, counts);
+            let fault = fault(self.sheet, new).map(|text| format!("Convert: {text}"));
+            self.differences.extend(fault);
+        }
+    }
+
     fn compare_terms(&mut self, counts: Counts) {
         for _ in 0..3 {
             let term = self.number(counts.terms);
@@ -196,9 +218,9 @@ impl Comparer<'_> {
         }
     }
 
-    /// Admission of the sheet that a withdrawal wrote.
-    fn compare_withdrawn(&mut self) {
-        let Some(new) = self.withdrawn.take() else {
+    /// Admission of the sheet that a call wrote, which must be accepted.
+    fn compare_written(&mut self) {
+        let Some(new) = self.written.take() else {
             return;
         };
         let reading = Reading::of(&new);
@@ -208,11 +230,13 @@ impl Comparer<'_> {
             random: self.random,
             coverage: self.coverage,
             differences: Vec::new(),
-            withdrawn: None,
+            written: None,
         };
         let length = comparer.work_length();
         comparer.compare_call(Call::Admit, length, 0);
         self.differences.append(&mut comparer.differences);
+        let refusal = reading.refusal.map(|fault| format!("written: {fault:?}"));
+        self.differences.extend(refusal);
     }
 
     /// The number of a line or a term, of which there are so many: an existing one, most likely a late one, or none.
@@ -273,9 +297,12 @@ impl Comparer<'_> {
         self.coverage
             .add_outcome(self.sheet, self.reading, call, &wanted);
         self.differences.extend(difference);
-        let writes = matches!(call, Call::Withdraw(_) | Call::WithdrawSet(_));
+        let writes = matches!(
+            call,
+            Call::Withdraw(_) | Call::WithdrawSet(_) | Call::Convert
+        );
         if writes && wanted.answer.number == 0 {
-            self.withdrawn = Some(wanted.written().to_vec());
+            self.written = Some(wanted.written().to_vec());
         }
     }
 }
@@ -301,6 +328,7 @@ fn by_reference(reading: &Reading, sheet: &[u8], call: Call, mut buffers: Buffer
         Call::FindAll(wanted) => reading.find_all(sheet, work, wanted, answers),
         Call::Withdraw(line) => reading.withdraw(sheet, line, work, out),
         Call::WithdrawSet(list) => reading.withdraw_set(sheet, list, work, out),
+        Call::Convert => reading.convert(sheet, work, out),
         Call::Normal(term) => reading.normal(term, work),
     };
     Outcome { answer, buffers }
@@ -314,6 +342,7 @@ fn by_library(sheet: &[u8], call: Call, mut buffers: Buffers) -> Outcome {
         Call::FindAll(wanted) => mengyubad::find_all(sheet, work, wanted, answers),
         Call::Withdraw(line) => mengyubad::withdraw(sheet, line, work, out),
         Call::WithdrawSet(list) => mengyubad::withdraw_set(sheet, list, work, out),
+        Call::Convert => mengyubad::convert(sheet, work, out),
         Call::Normal(term) => mengyubad::normal(sheet, term, work),
     };
     Outcome {

@@ -1,6 +1,7 @@
 //! What a run has seen.
 
 use crate::compare::{Call, Outcome};
+use crate::conversions::{gets_motive, motives, nearly, PARTS};
 use crate::reference::calls::ABSENT;
 use crate::reference::citations::cited;
 use crate::reference::layout::{word, Counts, LAST_EDITION};
@@ -13,7 +14,10 @@ const FULL_RUN: u64 = 100_000;
 const FULL_GOAL: u64 = 1_000;
 
 /// The numbers that a call on a sheet may answer, 0 the successful ones; 15 and 16 are about dates.
-const NUMBERS: [usize; 18] = [0, 1, 2, 3, 4, 5, 6, 7, 8, 9, 10, 11, 12, 13, 14, 17, 18, 19];
+/// Number 21 must not be answered: an accepted sheet has every motive.
+const NUMBERS: [usize; 19] = [
+    0, 1, 2, 3, 4, 5, 6, 7, 8, 9, 10, 11, 12, 13, 14, 17, 18, 19, 20,
+];
 
 /// What sets of lines are counted under.
 const SETS: [&str; 7] = [
@@ -22,6 +26,19 @@ const SETS: [&str; 7] = [
 
 /// What batches are counted under.
 const BATCHES: [&str; 5] = ["empty", "one judgment", "several", "by 19", "by admission"];
+
+/// What conversions are counted under: written, by the lines of rules 33 and 34, and refused.
+const CONVERSIONS: [&str; 6] = [
+    "without such lines",
+    "one line",
+    "several",
+    "by 13",
+    "by 20",
+    "by admission",
+];
+
+/// What the lines that get a motive are counted under, by the lines that give P a universe in G,Nat.
+const ADDED: [&str; 2] = ["the only one", "the lowest of several"];
 
 /// What judgments that several lines state are counted under: all of them, those whose answer is not the lowest of the
 /// lines, those whose answer is not the last, and those for which several lines have the least height.
@@ -58,7 +75,7 @@ pub struct Coverage {
     /// Lines that the generator made as instances and the reference refused.
     pub unfit: u64,
     /// Answers by number over all calls.
-    pub numbers: [u64; 20],
+    pub numbers: [u64; 22],
     /// Sets of lines of accepted sheets: withdrawn, by how many there are, and refused; as `SETS` says.
     pub sets: [u64; SETS.len()],
     /// Batches answered, by how many judgments there are, and refused; as `BATCHES` says.
@@ -69,6 +86,12 @@ pub struct Coverage {
     pub longer: [u64; 2],
     /// Judgments found that several lines state, by single searches and in batches; as `REPEATED` says.
     pub repeated: [[u64; REPEATED.len()]; 2],
+    /// Conversions; as `CONVERSIONS` says.
+    pub conversions: [u64; CONVERSIONS.len()],
+    /// Lines of converted sheets that get a motive; as `ADDED` says.
+    pub added: [u64; ADDED.len()],
+    /// Those of them with an earlier line below the motive that lacks one of `PARTS` and has the others.
+    pub nearly: [u64; PARTS.len()],
     /// Terms that are not normal, and terms that are.
     pub terms: [u64; 2],
     pub accepted_lines: ByRule,
@@ -87,12 +110,15 @@ impl Default for Coverage {
             calls: 0,
             differences: 0,
             unfit: 0,
-            numbers: [0; 20],
+            numbers: [0; 22],
             sets: [0; SETS.len()],
             batches: [0; BATCHES.len()],
             judgments: [0; 2],
             longer: [0; 2],
             repeated: [[0; REPEATED.len()]; 2],
+            conversions: [0; CONVERSIONS.len()],
+            added: [0; ADDED.len()],
+            nearly: [0; PARTS.len()],
             terms: [0; 2],
             accepted_lines: NO_LINES,
             refused_lines: NO_LINES,
@@ -155,7 +181,27 @@ impl Coverage {
             }
             (Call::FindAll(_), 19) => self.batches[3] += 1,
             (Call::FindAll(_), _) => self.batches[4] += 1,
+            (Call::Convert, 0) => {
+                let counts = Counts::stated(sheet);
+                let lines = with_motive(sheet, counts).count();
+                self.conversions[lines.min(2)] += 1;
+            }
+            (Call::Convert, 13) => self.conversions[3] += 1,
+            (Call::Convert, 20) => self.conversions[4] += 1,
+            (Call::Convert, _) => self.conversions[5] += 1,
             _ => {}
+        }
+    }
+
+    /// Counts the lines of a sheet that is converted.
+    pub fn add_converted(&mut self, sheet: &[u8], counts: Counts) {
+        for line in with_motive(sheet, counts) {
+            let motives = motives(sheet, counts, line).len();
+            self.added[usize::from(motives > 1)] += 1;
+            let nearly = nearly(sheet, counts, line);
+            for (count, holds) in self.nearly.iter_mut().zip(nearly) {
+                *count += u64::from(holds);
+            }
         }
     }
 
@@ -211,6 +257,9 @@ impl Coverage {
             ("terms that are normal, or are not", &self.terms),
             ("sets of lines of some kind", &self.sets),
             ("batches or their judgments of some kind", &searched),
+            ("conversions of some kind", &self.conversions),
+            ("motives added of some kind", &self.added),
+            ("lines before a motive that nearly give it", &self.nearly),
             ("judgments of several lines, singly", &self.repeated[0]),
             ("judgments of several lines, in batches", &self.repeated[1]),
         ];
@@ -228,6 +277,9 @@ impl Coverage {
         }
         for number in NUMBERS.iter().filter(|&&n| self.numbers[n] == 0) {
             missed.push(format!("number {number} was never answered"));
+        }
+        if self.numbers[21] > 0 {
+            missed.push("number 21 was answered".to_string());
         }
         missed
     }
@@ -250,18 +302,16 @@ fn domain(sheet: &[u8], counts: Counts, line: usize) -> usize {
 /// the lowest of several, 2 for another.
 fn motive(sheet: &[u8], counts: Counts, line: usize) -> usize {
     let cited = cited(sheet, counts, line)[0];
-    let [_, under_nat, p, ..] = counts.judgment(sheet, cited);
-    let is_universe = |term: u32| word(sheet, counts.term_at(term as usize)) == 2;
-    let gives = |&other: &usize| {
-        let [form, context, s1, _, s3] = counts.judgment(sheet, other);
-        (form, context, s1) == (1, under_nat, p) && is_universe(s3)
-    };
-    let lines: Vec<usize> = (0..line).filter(gives).collect();
-    match lines[..] {
+    match motives(sheet, counts, line)[..] {
         [_] => 0,
         [lowest, ..] if lowest == cited => 1,
         _ => 2,
     }
+}
+
+/// The lines that conversion adds a motive to.
+fn with_motive(sheet: &[u8], counts: Counts) -> impl Iterator<Item = usize> + '_ {
+    (0..counts.lines).filter(move |&line| gets_motive(sheet, counts, line))
 }
 
 /// The counts with their kinds.
@@ -277,8 +327,8 @@ fn counted(kinds: &[&str], counts: &[u64]) -> [String; 2] {
     [done, refused].map(|some| some.join(", "))
 }
 
-/// The two tables, the sets of lines, the batches, the judgments of several lines, the readings of rule 38 and the
-/// motives cited.
+/// The two tables, the sets of lines, the batches, the judgments of several lines, the conversions, the readings of
+/// rule 38 and the motives cited.
 impl Coverage {
     fn write_numbers(&self, f: &mut fmt::Formatter) -> fmt::Result {
         writeln!(f, "number  answers")?;
@@ -313,6 +363,15 @@ impl Coverage {
             singly.join(", ")
         )?;
         writeln!(f, "in batches: {}", in_batches.join(", "))
+    }
+
+    fn write_conversions(&self, f: &mut fmt::Formatter) -> fmt::Result {
+        let [written, refused] = counted(&CONVERSIONS, &self.conversions);
+        let added = listed(&ADDED, &self.added).join(", ");
+        let nearly = listed(&PARTS, &self.nearly).join(", ");
+        writeln!(f, "conversions: {written}; refused: {refused}")?;
+        writeln!(f, "motives added: {added}")?;
+        writeln!(f, "with a line before that lacks one part alone: {nearly}")
     }
 
     fn write_rules(&self, f: &mut fmt::Formatter) -> fmt::Result {
@@ -353,6 +412,7 @@ impl fmt::Display for Coverage {
         self.write_sets(f)?;
         self.write_batches(f)?;
         self.write_repeated(f)?;
+        self.write_conversions(f)?;
         self.write_rules(f)?;
         self.write_domains(f)?;
         self.write_motives(f)?;

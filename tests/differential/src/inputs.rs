@@ -72,8 +72,8 @@ impl Inputs {
         encode(&mut maker.d.terms, lines, style, &mut self.random)
     }
 
-    /// The lines that are stated: all, or what some of them rest on; reordered; some repeated, or their judgments
-    /// stated by further lines.
+    /// The lines that are stated: all, or what some of them rest on; some repeated, or their judgments stated by
+    /// further lines; reordered.
     fn arranged(&mut self, maker: &Maker) -> Vec<Line> {
         let all = &maker.d.lines;
         let mut lines = if self.random.one_in(2) {
@@ -84,9 +84,6 @@ impl Inputs {
         } else {
             all.clone()
         };
-        if self.random.one_in(3) {
-            lines = reordered(&lines, &mut self.random);
-        }
         if self.random.one_in(10) {
             lines = after_empty(&lines);
         }
@@ -100,11 +97,19 @@ impl Inputs {
             let (terms, edition) = (&maker.d.terms, maker.d.edition);
             lines = restated(terms, edition, &lines, upto, &mut self.random);
         }
+        if self.random.one_in(3) {
+            lines = reordered(&lines, &mut self.random);
+        }
         lines
     }
 
+    /// A third have many inductions, which is what conversion is about.
     fn valid(&mut self) -> Vec<u8> {
-        let mut maker = self.derivation();
+        let mut maker = if self.random.one_in(3) {
+            self.of_kind(Kind::Inductions)
+        } else {
+            self.derivation()
+        };
         let lines = self.arranged(&maker);
         self.encoded(&mut maker, &lines)
     }

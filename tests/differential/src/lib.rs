@@ -1,6 +1,7 @@
 //! Compares the proved checker with a second implementation, on sheets made at random and on dates.
 
 pub mod compare;
+pub mod conversions;
 pub mod coverage;
 pub mod dates;
 pub mod generate;

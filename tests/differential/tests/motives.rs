@@ -5,7 +5,7 @@
 #[path = "common/answers.rs"]
 mod answers;
 
-use answers::answer;
+use answers::{answer, outcome};
 use differential::compare::Call;
 use differential::generate::derivation::Line;
 use differential::generate::encode::{encode, Style};
@@ -210,6 +210,7 @@ impl Lines {
             if wanted == 0 {
                 admitted += 1;
                 self.try_withdrawal(&sheet, premises);
+                self.try_conversion(&sheet, premises);
             } else {
                 assert_eq!(answer.values[0], self.last(), "{case}");
             }
@@ -230,6 +231,25 @@ impl Lines {
             let answer = answer(sheet, call, sheet.len());
             assert_eq!((answer.number, answer.values[0]), wanted, "{call:?}");
         }
+    }
+
+    /// A sheet of edition 1 or 2 becomes one whose last line cites the first motive in front of its premises.
+    fn try_conversion(&self, sheet: &[u8], [a, b, c, _]: [usize; 4]) {
+        let outcome = outcome(sheet, Call::Convert, sheet.len());
+        let counts = Counts::stated(sheet);
+        if counts.edition == 3 {
+            assert_eq!((outcome.answer.number, outcome.answer.values[0]), (20, 0));
+            return;
+        }
+        let mut wanted = sheet.to_vec();
+        cite(&mut wanted, [self.motives[0], a, b, c]);
+        let counts = Counts {
+            edition: 3,
+            ..counts
+        };
+        counts.write_trailer(&mut wanted);
+        assert_eq!(outcome.answer.number, 0);
+        assert_eq!(outcome.written(), wanted);
     }
 }
 

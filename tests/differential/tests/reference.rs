@@ -61,13 +61,15 @@ fn generated_sheets_are_accepted() {
         Kind::Large,
         Kind::LongContext,
         Kind::GreatTerms,
+        Kind::Inductions,
         Kind::Normalisation,
         Kind::GreatNormalisation,
         Kind::Mixed,
     ];
     for seed in 0..400 {
-        let edition = 1 + (seed % u64::from(LAST_EDITION)) as u16;
-        let mut maker = grow(seed, kinds[seed as usize % kinds.len()], edition);
+        let (kind, edition) = (seed as usize % kinds.len(), seed as usize / kinds.len());
+        let edition = 1 + (edition % usize::from(LAST_EDITION)) as u16;
+        let mut maker = grow(seed, kinds[kind], edition);
         assert!(maker.d.unfit.is_empty());
         let lines = maker.d.lines.clone();
         let random = &mut Random::new(seed);

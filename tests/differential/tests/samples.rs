@@ -9,7 +9,7 @@ use differential::reference::dates::{Calendar, Date};
 use differential::reference::layout::{Counts, LINE_ROW, MAX_LENGTH, MAX_TERMS};
 use differential::reference::reading::Reading;
 use differential::reference::Answer;
-use files::{bundled, fields, folder, rows, sheet, sheets};
+use files::{bundle, bundled, fields, folder, rows, sheet, sheets};
 use std::fs;
 use std::path::{Path, PathBuf};
 
@@ -122,6 +122,35 @@ fn batches(list: &str, text: &mut Vec<String>) {
     }
 }
 
+/// A row is a sheet, its length, that of the new sheet, 0 if there is none, and the rooms for it. The new sheets stand
+/// one behind the other in one file. The output has zeros before.
+fn conversions(text: &mut Vec<String>) {
+    let results = sheet("conversion.results");
+    let mut expected = &results[..];
+    for (row, old) in bundle("conversion") {
+        let admitted = full(&old, Call::Admit, 0);
+        text.push(format!("{row} {}", printed(admitted.answer, 3)));
+        let mut numbers = row.split(' ').skip(2).map_while(|w| w.parse().ok());
+        let (new, behind) = expected.split_at(numbers.next().expect("a length"));
+        for room in numbers {
+            let converted = full(&old, Call::Convert, room);
+            text.push(format!("{room} {}", printed(converted.answer, 1)));
+            let mut rest = &converted.buffers.out[..];
+            if converted.answer.number == 0 {
+                let again = full(converted.written(), Call::Admit, 0);
+                text.push(printed(again.answer, 3));
+                assert_eq!(converted.written(), new, "{row}");
+                text.push("as expected".to_string());
+                rest = &rest[new.len()..];
+            }
+            assert!(rest.iter().all(|&byte| byte == 0), "{row}");
+            text.push("as expected".to_string());
+        }
+        expected = behind;
+    }
+    assert!(expected.is_empty());
+}
+
 /// The date of a word `YEAR-MONTH-DAY`.
 fn date(word: &str) -> Date {
     let parts = word.split('-').map(|part| part.parse().expect("a number"));
@@ -183,6 +212,7 @@ fn answers_are_those_of_the_samples() {
     set_withdrawals(&mut text);
     batches("batch.list", &mut text);
     batches("batch_heights.list", &mut text);
+    conversions(&mut text);
     let wanted: Vec<&str> = wanted.lines().collect();
     assert_eq!(text.len(), wanted.len());
     for (got, wanted) in text.iter().zip(wanted) {
@@ -249,6 +279,15 @@ impl Sample<'_> {
         }
     }
 
+    /// With a work buffer that is one word short, with just enough room, with more, a byte short and with none.
+    fn compare_conversions(&self, words: usize) {
+        let enough = self.sheet.len();
+        self.compare(Call::Convert, words.saturating_sub(1), enough);
+        for room in [enough, enough + 7, enough.saturating_sub(1), 0] {
+            self.compare(Call::Convert, words, room);
+        }
+    }
+
     fn compare_all(&self) {
         let (terms, lines) = self
             .reading
@@ -266,6 +305,7 @@ impl Sample<'_> {
             self.compare_line(line, terms);
         }
         self.compare_sets(lines, terms);
+        self.compare_conversions(terms);
         // Some hundred terms of a large table, the last among them, and none.
         let asked = (0..terms).rev().step_by(1 + terms / 300);
         for term in asked.chain([terms]) {

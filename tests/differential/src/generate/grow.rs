@@ -6,7 +6,6 @@ use crate::reference::judgments::Judgment::{Typing, WellFormed};
 use crate::reference::layout::{MAX_LINES, MAX_SIZE};
 use crate::reference::rules::{last_rule, LAST_RULE};
 use crate::reference::terms::{Context, Node, EMPTY};
-use std::ops::RangeInclusive;
 
 /// What kind of derivation is grown.
 #[derive(Clone, Copy, Debug, PartialEq, Eq)]
@@ -16,6 +15,8 @@ pub enum Kind {
     Large,
     LongContext,
     GreatTerms,
+    /// Many lines of rules 33 and 34.
+    Inductions,
     /// Rules 44 to 67 alone.
     Normalisation,
     /// Rules 44 to 67 on terms up to the greatest.
@@ -27,7 +28,8 @@ pub enum Kind {
 pub fn some_kind(random: &mut Random) -> Kind {
     match random.below(100) {
         0..=4 => Kind::Tiny,
-        5..=48 => Kind::Usual,
+        5..=41 => Kind::Usual,
+        42..=48 => Kind::Inductions,
         49..=50 => Kind::Large,
         51..=53 => Kind::LongContext,
         54..=55 => Kind::GreatTerms,
@@ -46,6 +48,7 @@ pub fn grow(seed: u64, kind: Kind, edition: u16) -> Maker {
         Kind::Large => 200 + random.below(MAX_LINES - 200),
         Kind::LongContext => 100 + random.below(500),
         Kind::GreatTerms => 60 + random.below(60),
+        Kind::Inductions => 60 + random.below(200),
         Kind::Normalisation | Kind::GreatNormalisation => 30 + random.below(90),
         Kind::Mixed => 80 + random.below(240),
     };
@@ -64,12 +67,13 @@ pub fn grow(seed: u64, kind: Kind, edition: u16) -> Maker {
     maker
 }
 
-/// The rules of a kind's lines.
-fn rules(kind: Kind) -> RangeInclusive<u32> {
+/// The rules of a kind's steps; what they need is by any rules.
+fn rules(kind: Kind) -> Vec<u32> {
     match kind {
-        Kind::Normalisation | Kind::GreatNormalisation => last_rule(1) + 1..=LAST_RULE,
-        Kind::Mixed => 1..=LAST_RULE,
-        _ => 1..=last_rule(1),
+        Kind::Inductions => vec![3, 7, 12, 33, 34],
+        Kind::Normalisation | Kind::GreatNormalisation => (last_rule(1) + 1..=LAST_RULE).collect(),
+        Kind::Mixed => (1..=LAST_RULE).collect(),
+        _ => (1..=last_rule(1)).collect(),
     }
 }
 
@@ -93,7 +97,7 @@ fn usual_contexts(maker: &mut Maker) {
 
 /// Steps until the derivation is full or nothing more comes of it, by random rules, rather those that have few lines.
 fn take_steps(maker: &mut Maker, kind: Kind) {
-    let rules: Vec<u32> = rules(kind).collect();
+    let rules = rules(kind);
     let mut idle = 0;
     while !maker.d.full() && idle < 200 {
         let choices = [0; 4].map(|_| rules[maker.random.below(rules.len())]);

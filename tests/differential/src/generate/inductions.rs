@@ -15,9 +15,11 @@ pub struct Cases {
 impl Maker {
     /// G,Nat |- P : U_i; a : Nat; b : P[zero]; G,Nat,P |- c : P[succ x].
     pub fn some_cases(&mut self, g: Context, fuel: u32) -> Option<Cases> {
-        match self.random.below(6) {
+        match self.random.below(10) {
             0 | 1 => self.family_cases(g, fuel),
             2 => self.identity_cases(g, fuel),
+            3 | 4 => self.redex_cases(g, fuel),
+            5 | 6 => self.sibling_cases(g, fuel),
             _ => None,
         }
         .or_else(|| self.any_cases(g, fuel))
@@ -27,11 +29,30 @@ impl Maker {
         let nat = self.nat();
         let h = self.under(g, nat, 3)?;
         let motive = self.some_family(h, fuel)?;
+        self.cases_at(g, motive, fuel)
+    }
+
+    /// The cases for the line of a motive.
+    pub fn cases_at(&mut self, g: Context, motive: usize, fuel: u32) -> Option<Cases> {
         let (k, zero_type, succ_type) = self.case_types(motive)?;
         let base = self.inhabit(g, zero_type, fuel)?;
         let step = self
             .applied_step(k, succ_type)
             .or_else(|| self.inhabit(k, succ_type, fuel))?;
+        self.cases(g, [motive, base, step], fuel)
+    }
+
+    /// The cases of an induction that some line computes, with any number and base.
+    pub fn known_cases(&mut self, fuel: u32) -> Option<Cases> {
+        let computes = |&line: &usize| matches!(self.d.lines[line].rule, 33 | 34);
+        let known: Vec<usize> = (0..self.d.lines.len()).filter(computes).collect();
+        let line = self.some(&known)?;
+        let step = *self.d.lines[line].premises.last()?;
+        let g = self.d.judgment(line).context();
+        let (h, p) = self.d.terms.last(self.d.judgment(step).context())?;
+        let motive = self.some(&self.type_lines(h, p))?;
+        let zero_type = self.d.terms.at_zero(p);
+        let base = self.inhabit(g, zero_type, fuel)?;
         self.cases(g, [motive, base, step], fuel)
     }
 
@@ -43,7 +64,7 @@ impl Maker {
     }
 
     /// The cases of these lines, with some number.
-    fn cases(&mut self, g: Context, lines: [usize; 3], fuel: u32) -> Option<Cases> {
+    pub fn cases(&mut self, g: Context, lines: [usize; 3], fuel: u32) -> Option<Cases> {
         let [motive, base, step] = lines;
         let nat = self.nat();
         let number = self.inhabit(g, nat, fuel)?;
@@ -163,11 +184,13 @@ impl Maker {
             .apply(15, &[cases.motive, cases.number, cases.base, cases.step])
     }
 
-    /// E-INDZERO or E-INDSUC from its printed premises, and from the motive where the edition has it cited.
+    /// E-INDZERO or E-INDSUC from its printed premises, and from a motive where the edition has it cited. In each
+    /// edition several lines may give P a universe.
     pub fn computation(&mut self, rule: u32, motive: usize, printed: &[usize]) -> Option<usize> {
+        let motive = self.some_motive(motive)?;
         let mut premises = printed.to_vec();
         if cites_motive(self.d.edition, rule) {
-            premises.insert(0, self.some_motive(motive)?);
+            premises.insert(0, motive);
         }
         self.d.apply(rule, &premises)
     }

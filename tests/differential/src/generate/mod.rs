@@ -12,6 +12,7 @@ mod inductions;
 mod infer;
 mod inhabit;
 pub mod judgments;
+mod late_motives;
 pub mod lists;
 pub mod maker;
 mod non_instances;

@@ -241,16 +241,21 @@ impl Maker {
             }
             30 => self.redex_step(fuel),
             31 | 32 => self.pair_step(rule, g, fuel),
-            33 => {
-                let cases = self.some_cases(g, fuel)?;
-                self.computation(33, cases.motive, &[cases.base, cases.step])
-            }
-            _ => {
-                let cases = self.some_cases(g, fuel)?;
-                let printed = [cases.number, cases.base, cases.step];
-                self.computation(34, cases.motive, &printed)
-            }
+            _ => self.computation_step(rule, g, fuel),
         }
+    }
+
+    /// Rules 33 and 34.
+    fn computation_step(&mut self, rule: u32, g: Context, fuel: u32) -> Option<usize> {
+        let cases = match self.random.below(6) {
+            0 => self.variable_cases(g, fuel),
+            1 | 2 => self.known_cases(fuel),
+            _ => None,
+        }
+        .or_else(|| self.some_cases(g, fuel))?;
+        let printed = [cases.number, cases.base, cases.step];
+        let unused = if rule == 33 { 1 } else { 0 };
+        self.computation(rule, cases.motive, &printed[unused..])
     }
 
     /// E-APPABS, most likely on a body that uses its variable under a binder.

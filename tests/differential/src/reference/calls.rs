@@ -1,7 +1,8 @@
-//! The calls: admission, finding of a judgment and of a batch, withdrawal of a line and of a set of lines, and the
-//! question whether a term is normal, with what they leave in the buffers.
+//! The calls: admission, finding of a judgment and of a batch, withdrawal of a line and of a set of lines, conversion
+//! to edition 3, and the question whether a term is normal, with what they leave in the buffers.
 
 use super::citations::{cited, premise_places};
+use super::conversion::converted;
 use super::layout::{set_word, word, Counts, LINE_ROW};
 use super::reading::Reading;
 use super::{done, refused, Answer, Refusal};
@@ -97,6 +98,13 @@ impl Reading {
             Err(answer) => answer,
             Ok(_) if list.windows(2).any(|pair| pair[0] >= pair[1]) => refused(18, 0),
             Ok(_) => write(lines_away(sheet, list), out),
+        }
+    }
+
+    pub fn convert(&self, sheet: &[u8], work: &mut [u32], out: &mut [u8]) -> Answer {
+        match self.accept(work) {
+            Err(answer) => answer,
+            Ok(_) => write(converted(sheet, &self.motives), out),
         }
     }
 

@@ -2,11 +2,12 @@
 //! rule by building what it concludes. Of document 02, A1: the calendar, walked day by day; A2: normal terms, by the
 //! clauses as printed; A3: rule 38 under either domain; A5: the rules of section 4 of source document 000; A6: sets of
 //! lines, by single withdrawals; A7: batches, by single searches; A8: heights, line by line; A10: the motive as one
-//! more premise in front of the printed ones.
+//! more premise in front of the printed ones; A11: conversion, by the first line that gives each type a universe.
 
 pub mod calls;
 pub mod citations;
 mod contexts;
+pub mod conversion;
 pub mod dates;
 mod equality;
 pub mod judgments;

@@ -2,6 +2,7 @@
 //! Number 4 depends on the work buffer and is tested by the calls.
 
 use super::citations::heights;
+use super::conversion::motives;
 use super::judgments::Judgment;
 use super::layout::{
     word, Counts, LAST_EDITION, MARK, MAX_INDEX, MAX_LENGTH, MAX_LEVEL, MAX_SIZE, TRAILER,
@@ -25,6 +26,8 @@ pub struct Reading {
     pub forms: Vec<Form>,
     /// The heights of the lines of an accepted sheet; of no line if it is refused.
     pub heights: Vec<usize>,
+    /// What the lines of an accepted sheet cite for a motive once it is converted; of no line if it is refused.
+    pub motives: Vec<Option<usize>>,
 }
 
 /// The tables built while reading.
@@ -50,6 +53,7 @@ impl Reading {
                 refused_rule: None,
                 forms: Vec::new(),
                 heights: Vec::new(),
+                motives: Vec::new(),
             },
             Ok(counts) => read_tables(sheet, counts),
         }
@@ -93,9 +97,13 @@ fn read_tables(sheet: &[u8], counts: Counts) -> Reading {
     let refused_rule = refusal
         .filter(|fault| fault.number >= 9)
         .map(|fault| u32::from(word(sheet, counts.line_at(fault.place) + 2)));
-    let (forms, heights) = match refusal {
-        None => (forms(&tables.terms, &tables.rows), heights(sheet, counts)),
-        Some(_) => (Vec::new(), Vec::new()),
+    let (forms, heights, motives) = match refusal {
+        None => (
+            forms(&tables.terms, &tables.rows),
+            heights(sheet, counts),
+            motives(&mut tables.terms, &tables.lines),
+        ),
+        Some(_) => (Vec::new(), Vec::new(), Vec::new()),
     };
     Reading {
         counts: Some(counts),
@@ -104,6 +112,7 @@ fn read_tables(sheet: &[u8], counts: Counts) -> Reading {
         refused_rule,
         forms,
         heights,
+        motives,
     }
 }
 

@@ -27,9 +27,9 @@ fn entries(folder: &Path) -> impl Iterator<Item = PathBuf> {
     entries.map(|entry| entry.expect("an entry").path())
 }
 
-/// The sheets of a bundle, which stand one behind the other, with the lines of its list: name, length and until when
-/// the answer holds, if it is to change.
-fn bundle(name: &str) -> Vec<(String, Vec<u8>)> {
+/// The sheets of a bundle, which stand one behind the other, with the lines of its list: name, length, what else is
+/// said of the sheet, and until when the answer holds, if it is to change.
+pub fn bundle(name: &str) -> Vec<(String, Vec<u8>)> {
     let bundle = sheet(&format!("{name}.sheets"));
     let mut left = &bundle[..];
     let mut sheets = Vec::new();
@@ -42,7 +42,7 @@ fn bundle(name: &str) -> Vec<(String, Vec<u8>)> {
     sheets
 }
 
-/// The sheets of all bundles.
+/// The sheets of the bundles that are only admitted.
 pub fn bundled() -> Vec<(String, Vec<u8>)> {
     ["normalisation", "motives"].map(bundle).concat()
 }
@@ -57,7 +57,8 @@ pub fn sheets() -> Vec<(PathBuf, Vec<u8>)> {
     };
     let named = |path: &PathBuf| path.extension().is_some_and(|end| end == "sheet");
     let paths = entries(&data).chain(inner.flat_map(|path| entries(&path)));
-    let bundled = bundled()
+    let bundled = [bundled(), bundle("conversion")].concat();
+    let bundled = bundled
         .into_iter()
         .map(|(line, sheet)| (line.into(), sheet));
     paths.filter(named).map(read).chain(bundled).collect()

@@ -1,6 +1,7 @@
 use mathlib.Core.Path.{sym, subst}
+use Rattle.sheets.specs.declared.withdrawal.Withdrawal.the-variants.{Written}
+use Rattle.sheets.proofs.AnsweredLaws.{set-written-fits}
 use Rattle.answers.specs.Room.{Within}
-use Rattle.answers.proofs.RoomLaws.{answer-within}
 use borrow.Author.Needs.{needs}
 use Rattle.answers.proofs.replies.withdrawal_reply.Statement.{statement}
 use Rattle.answers.proofs.replies.withdrawal_reply.Tie as tie
@@ -21,7 +22,8 @@ returns : tie.Need-returns
 returns c =
     let w = c .before .before .before .before .before .withdraw-set .ensures in
     let put = c .put-withdrawal .ensures in
-    (w .0, (w .1 .1 .0, (w .1 .1 .1, (subst (Within _) (sym (w .0)) (answer-within _ _ _ _), (put .0, put .1)))))
+    let fits = subst (Within Written _) (sym (w .0)) (set-written-fits _ _ _ _) in
+    (w .0, (w .1 .1 .0, (w .1 .1 .1, (fits, (put .0, put .1)))))
 
 pub withdrawal-reply-spec : {M : Type 1} → statement M
 withdrawal-reply-spec =
