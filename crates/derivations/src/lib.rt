@@ -1,1 +1,2 @@
 // Derivations: what accepted sheets state. Theorems only; nothing runs here.
+#![tactic(auto)]

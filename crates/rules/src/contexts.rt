@@ -9,14 +9,14 @@ use terms::nodes::{Node, is_node};
 use terms::words::word_at;
 
 // What the check of a table finds: every row is right, or the first faulty row.
-#[derive(Drop)]
+#[derive(Clone, Copy)]
 pub enum ContextsAnswer {
     NoFault,
     Faulty { place: usize },
 }
 
 // What a look-up of a variable finds: the row of its type, or that the context is shorter.
-#[derive(Drop)]
+#[derive(Clone, Copy)]
 pub enum FoundEntry {
     At { row: usize },
     Missing,

@@ -151,7 +151,7 @@ const TABLE: [u8; 690] = [
 
 // What a rule asks of its premises: how many there are, the forms of four, and how many entries their contexts add; 255
 // where there is no premise.
-#[derive(Drop)]
+#[derive(Clone, Copy)]
 pub struct RuleRow {
     pub count: usize,
     pub form0: usize,

@@ -16,7 +16,7 @@ use rules::contexts::{ContextsAnswer, check_contexts};
 use terms::sizes::{TermsAnswer, check_terms};
 
 // What admission answers: the counts, or the number of the first fault and its place.
-#[derive(Drop)]
+#[derive(Clone, Copy)]
 pub enum Admission {
     Accepted {
         terms: usize,

@@ -10,7 +10,7 @@ use crate::finding::Wanted;
 use crate::opening::{Opened, answer_by, answer_in, batch_of, open_batch};
 
 // What a batch of searches answers: how many judgments were sought, or the number of a refusal and its place.
-#[derive(Drop)]
+#[derive(Clone, Copy)]
 pub enum Batch {
     Answered(usize),
     Refused { number: usize, place: usize },

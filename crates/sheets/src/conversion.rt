@@ -16,7 +16,7 @@ use crate::motive_lines::{NEW_EDITION, find_motives};
 use terms::words::word_at;
 
 // What the converter answers: the new sheet's length, or the number of a refusal and its place.
-#[derive(Drop)]
+#[derive(Clone, Copy)]
 pub enum Conversion {
     Written { length: usize },
     Refused { number: usize, place: usize },

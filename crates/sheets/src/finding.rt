@@ -9,7 +9,7 @@ use crate::layout::edition_of;
 use crate::searching::search_lines;
 
 // The five numbers of a judgment that is looked for.
-#[derive(Drop)]
+#[derive(Clone, Copy)]
 pub struct Wanted {
     pub form: u32,
     pub context: u32,
@@ -19,7 +19,7 @@ pub struct Wanted {
 }
 
 // What a search answers: the line, or the number of a refusal and its place.
-#[derive(Drop)]
+#[derive(Clone, Copy)]
 pub enum Found {
     Line(usize),
     Refused { number: usize, place: usize },

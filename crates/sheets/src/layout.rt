@@ -7,7 +7,7 @@ use terms::words::word_at;
 
 // The eight words of a trailer. The three distances go back from its first byte to the terms, the contexts and the
 // lines.
-#[derive(Drop)]
+#[derive(Clone, Copy)]
 pub struct Trailer {
     pub terms: usize,
     pub contexts: usize,
@@ -20,7 +20,7 @@ pub struct Trailer {
 }
 
 // What the layout shows: how many rows each table has, or the first of numbers 1 to 4 that is broken.
-#[derive(Drop)]
+#[derive(Clone, Copy)]
 pub enum Layout {
     Counted {
         terms: usize,

@@ -16,7 +16,7 @@ use terms::words::word_at;
 
 // A line as its edition reads it: its words, but that `rule` is the row of the rule table, 0 where the edition does not
 // admit the rule.
-#[derive(Drop)]
+#[derive(Clone, Copy)]
 pub struct Line {
     pub form: usize,
     pub rule: usize,
@@ -31,7 +31,7 @@ pub struct Line {
 }
 
 // What the check of the lines finds: every line is right, or the first fault and its line.
-#[derive(Drop)]
+#[derive(Clone, Copy)]
 pub enum LinesAnswer {
     NoFault,
     Faulty { number: usize, place: usize },

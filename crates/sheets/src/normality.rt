@@ -8,7 +8,7 @@ use crate::admission::{Admission, admit};
 use terms::normal::is_normal;
 
 // What is answered for a term: it is normal, it is not, or the number of a refusal and its place.
-#[derive(Drop)]
+#[derive(Clone, Copy)]
 pub enum Normality {
     Yes,
     No,

@@ -12,7 +12,7 @@ use crate::lines::{Line, read_line};
 use rules::table::{premise_count, rule_table};
 
 // A listed line that is used, as one more than its number, or 0 for none; and the lowest line that uses it and stays.
-#[derive(Drop)]
+#[derive(Clone, Copy)]
 struct Use {
     above: usize,
     place: usize,

@@ -14,7 +14,7 @@ use crate::line_sets::{number_lines, rises};
 use crate::uses::kept_use;
 
 // What withdrawal answers: the new sheet's length, or the number of a refusal and its place.
-#[derive(Drop)]
+#[derive(Clone, Copy)]
 pub enum Withdrawal {
     Written { length: usize },
     Refused { number: usize, place: usize },

@@ -18,7 +18,7 @@ use crate::tags::{arity, binders};
 // A substitution that a rule makes: for index 0 a row, zero, or first of a row, the others being lowered by 1; or succ
 // of the outer variable, the others being raised by 1; or, for y and x together, ind of four rows and its second, the
 // others being lowered by 2. What it brings in need have no row.
-#[derive(Drop)]
+#[derive(Clone, Copy)]
 pub enum Subst {
     Row(usize),
     Zero,
@@ -33,7 +33,7 @@ pub enum Subst {
 }
 
 // What takes the place of one index: a variable, a row, zero, first of a row, succ of a variable, or ind of four rows.
-#[derive(Drop)]
+#[derive(Clone, Copy)]
 pub enum Image {
     Var(usize),
     Row(usize),

@@ -10,7 +10,7 @@ use crate::rows::{Row, holds, word};
 use crate::tags::arity;
 
 // A term by its head: the numbers are rows, but for an index and a level. The term itself need have no row.
-#[derive(Drop)]
+#[derive(Clone, Copy)]
 pub enum Node {
     Var(usize),
     Univ(usize),

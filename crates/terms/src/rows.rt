@@ -5,7 +5,7 @@ ghost use Rattle.terms.specs.Rows.{word as word_of, row_of, holds_row};
 use crate::words::word_at;
 
 // The five words of a row, whether or not a table holds them.
-#[derive(Drop)]
+#[derive(Clone, Copy)]
 pub struct Row {
     pub tag: usize,
     pub a: usize,

@@ -10,14 +10,14 @@ use crate::rows::{Row, read_row};
 use crate::tags::{arity, limit};
 
 // What the check of one row finds.
-#[derive(Drop)]
+#[derive(Clone, Copy)]
 pub enum RowAnswer {
     Fault(usize),
     Size(u32),
 }
 
 // What the check of a table finds: every row is right, or the first fault and its row.
-#[derive(Drop)]
+#[derive(Clone, Copy)]
 pub enum TermsAnswer {
     NoFault,
     Faulty { number: usize, place: usize },

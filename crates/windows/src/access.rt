@@ -6,14 +6,14 @@ use crate::calendar::days_before;
 use crate::dates::Date;
 
 // From the first date's day to the last date's day, both included.
-#[derive(Drop)]
+#[derive(Clone, Copy)]
 pub struct Window {
     pub first: Date,
     pub last: Date,
 }
 
 // What a window answers to a date: open or closed, or number and place of a refusal.
-#[derive(Drop)]
+#[derive(Clone, Copy)]
 pub enum Access {
     Open,
     Closed,

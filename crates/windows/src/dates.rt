@@ -5,7 +5,7 @@ ghost use Rattle.windows.specs.Dates.{exists as existing, day_number_of};
 use crate::calendar::{days_before, month_length};
 
 // Any year, month and day; `exists` tells whether there is such a date.
-#[derive(Drop)]
+#[derive(Clone, Copy)]
 pub struct Date {
     pub year: usize,
     pub month: usize,
@@ -13,7 +13,7 @@ pub struct Date {
 }
 
 // The number of a day, or number and place of a refusal.
-#[derive(Drop)]
+#[derive(Clone, Copy)]
 pub enum DayNumber {
     Day(usize),
     Refused { number: usize, place: usize },
