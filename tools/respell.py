@@ -226,7 +226,7 @@ def respell_source(text, names):
     """Respells ghost imports and clauses, by words in camel case or declared here with a dash; strings stay."""
 
     def turn(m):
-        if CAMEL.match(m[2]) or m[2] in names.members or m[2] in names.definitions:
+        if CAMEL.match(m[2]) or KEBAB.match(m[2]) and m[2] in names.members | names.definitions:
             return m[1] + names.new(m[2])
         return m[0]
 

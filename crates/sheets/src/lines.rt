@@ -38,7 +38,7 @@ pub enum LinesAnswer {
 }
 
 // Word `j` of line `n`.
-fn line_word_lem(lines: &[u8], n: usize, j: usize) -> usize
+fn line_word(lines: &[u8], n: usize, j: usize) -> usize
     requires { (20 * n + 20 ≤ length lines.now) × (j < 10) }
     ensures { result ≡ line_word lines.now n j }
 {
@@ -51,16 +51,16 @@ pub fn read_line(edition: usize, lines: &[u8], n: usize) -> Line
     ensures { result ≡ line_of edition lines.now n }
 {
     Line {
-        form: line_word_lem(lines, n, 0),
-        rule: row_in(edition, line_word_lem(lines, n, 1)),
-        context: line_word_lem(lines, n, 2),
-        s1: line_word_lem(lines, n, 3),
-        s2: line_word_lem(lines, n, 4),
-        s3: line_word_lem(lines, n, 5),
-        p0: line_word_lem(lines, n, 6),
-        p1: line_word_lem(lines, n, 7),
-        p2: line_word_lem(lines, n, 8),
-        p3: line_word_lem(lines, n, 9),
+        form: line_word(lines, n, 0),
+        rule: row_in(edition, line_word(lines, n, 1)),
+        context: line_word(lines, n, 2),
+        s1: line_word(lines, n, 3),
+        s2: line_word(lines, n, 4),
+        s3: line_word(lines, n, 5),
+        p0: line_word(lines, n, 6),
+        p1: line_word(lines, n, 7),
+        p2: line_word(lines, n, 8),
+        p3: line_word(lines, n, 9),
     }
 }
 

@@ -13,7 +13,7 @@ use crate::searching::search_lines;
 
 // A batch's refusal, or number 0 with what its searches need: the sheet's edition, where its lines begin, how many they
 // are, how many judgments are to be found, and the heights of the lines.
-#[derive(Drop)]
+#[derive(Clone, Copy)]
 pub struct Opened {
     pub number: usize,
     pub place: usize,
