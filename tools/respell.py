@@ -35,6 +35,8 @@ PLAIN |= set("item items last later least left more most next none of one only o
 PLAIN |= set("same say says some start then there to two under whole with".split())
 # Where the rule would let two names fall together, or take a word of the language.
 CHOSEN = {
+    # of the library, named by its module
+    "not-nil": "not-nil",
     "noDate": "unreadable_date",
     "contextWord": "word_of_context",
     "toTerms": "distance_to_terms",
@@ -163,6 +165,11 @@ class Names:
         return snake(name) if CAMEL.match(name) else name
 
 
+def aliased(row, names):
+    """Respells the names that a file gives to what it imports from elsewhere."""
+    return re.sub(r" as ([^\s,};]+)", lambda m: " as " + (names.new(m[1]) if CAMEL.match(m[1]) else m[1]), row)
+
+
 def respell_lemmas(text, names):
     """Respells specs/ and files of lemmas: every name that is not brought from elsewhere."""
     kept = foreign(text)
@@ -178,7 +185,7 @@ def respell_lemmas(text, names):
         code, note = (row[: note.start()], row[note.start() :]) if note else (row, "")
         use = re.match(r"\s*(?:pub )?use ([^\s{;]+?)\.\{", code)
         if use and not own_module(use[1]):
-            return row
+            return aliased(row, names)
         if re.match(r"\s*(?:pub )?(?:mod|use) [^{]*$", code):
             return row
         return TOKEN.sub(turn, code) + in_ticks(note, names)
@@ -207,7 +214,7 @@ def respell_walk(text, names):
         code, note = (row[: note.start()], row[note.start() :]) if note else (row, "")
         use = re.match(r"\s*(?:pub )?use ([^\s{;]+?)(?:\.\{|\s|$)", code)
         if use and not (own_module(use[1]) and "{" in code):
-            return row
+            return aliased(row, names)
         return TOKEN.sub(turn, code) + in_ticks(note, names)
 
     return "\n".join(line(row) for row in text.split("\n"))

@@ -10,7 +10,7 @@ use lib.Dec.{ltb}
 use borrow.Author.Tests.{lt-ltb}
 use Rattle.windows.specs.declared.dates.Date.{Date}
 use Rattle.windows.specs.declared.dates.DayNumber.{DayNumber}
-use Rattle.windows.specs.declared.dates.DayNumber.TheVariants.{Refused as noDay}
+use Rattle.windows.specs.declared.dates.DayNumber.TheVariants.{Refused as no_day}
 use Rattle.windows.specs.declared.access.Access.{Access}
 use Rattle.windows.specs.declared.access.Access.TheVariants.{Refused}
 use Rattle.windows.specs.Dates.{date_of, Exists, day_number_of, no_date as no_such_day}
@@ -22,7 +22,7 @@ use Rattle.windows.proofs.AccessLaws.{all_exist?, access_is}
 use Rattle.answers.specs.declared.numbers.Reading.{Reading}
 use Rattle.answers.specs.declared.numbers.Reading.TheVariants.{Number, Unreadable}
 use Rattle.answers.specs.declared.dates.DateReading.{DateReading}
-use Rattle.answers.specs.declared.dates.DateReading.TheVariants.{Spelled, Unreadable as noDate}
+use Rattle.answers.specs.declared.dates.DateReading.TheVariants.{Spelled, Unreadable as unreadable_date}
 use Rattle.answers.specs.Numbers.{is_numeral, spelled, read_from, read_number}
 use Rattle.answers.specs.Dates.{numeral_of, date_from, date_in, held, held_number, held_date, held_reading}
 use Rattle.answers.specs.Text.{access_text, window_text, day_text, date_text}

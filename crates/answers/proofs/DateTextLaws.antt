@@ -10,7 +10,7 @@ use Rattle.windows.specs.declared.dates.Date.{Date}
 use Rattle.windows.specs.Dates.{date_of}
 use Rattle.answers.specs.declared.numbers.Reading.TheVariants.{Number, Unreadable}
 use Rattle.answers.specs.declared.dates.DateReading.{DateReading}
-use Rattle.answers.specs.declared.dates.DateReading.TheVariants.{Spelled, Unreadable as noDate}
+use Rattle.answers.specs.declared.dates.DateReading.TheVariants.{Spelled, Unreadable as unreadable_date}
 use Rattle.answers.specs.Numbers.{is_digit, all_digits, is_numeral, spelled}
 use Rattle.answers.specs.Parts.{up_to, past}
 use Rattle.answers.specs.Dates.{numeral_of, date_from, date_in, Numeral, SpellsDate}

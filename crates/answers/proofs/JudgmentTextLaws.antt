@@ -13,7 +13,7 @@ use Rattle.answers.specs.declared.numbers.Reading.TheVariants.{Number, Unreadabl
 use Rattle.answers.specs.declared.numbers.Field.{Field}
 use Rattle.answers.specs.declared.numbers.Field.TheVariants.{Number as word, Unreadable as no_word}
 use Rattle.answers.specs.declared.numbers.Request.{Request}
-use Rattle.answers.specs.declared.numbers.Request.TheVariants.{Judgment, Unreadable as noRequest}
+use Rattle.answers.specs.declared.numbers.Request.TheVariants.{Judgment, Unreadable as no_request}
 use Rattle.answers.specs.Numbers.{is_digit, is_numeral, spelled, field_of, request_of}
 use Rattle.answers.specs.Parts.{up_to, past}
 use Rattle.answers.specs.Listing.{field_in, request_in, SpellsWord, SpellsJudgment}

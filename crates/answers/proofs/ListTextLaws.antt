@@ -14,7 +14,7 @@ use Rattle.sheets.specs.declared.finding.Wanted.{Wanted}
 use Rattle.sheets.specs.Batch.{wanted_of, wanted_at, wanted_in}
 use Rattle.sheets.proofs.BatchLaws.{wanted_count, wanted_at_lem}
 use Rattle.answers.specs.declared.numbers.Request.{Request}
-use Rattle.answers.specs.declared.numbers.Request.TheVariants.{Judgment, Unreadable as noRequest}
+use Rattle.answers.specs.declared.numbers.Request.TheVariants.{Judgment, Unreadable as no_request}
 use Rattle.answers.specs.declared.listing.Listing.{Listing}
 use Rattle.answers.specs.Listing.{lines_of, request_in, before, judgments_in, judgments_of, numbers_of}
 use Rattle.answers.specs.Listing.{numbers_after, listing_of}

@@ -12,7 +12,7 @@ use borrow.Author.Tests.{eq-eqb, ne_eqb}
 use Rattle.sheets.specs.declared.finding.Wanted.{Wanted}
 use Rattle.answers.specs.declared.numbers.Field.{Field}
 use Rattle.answers.specs.declared.numbers.Request.{Request}
-use Rattle.answers.specs.declared.numbers.Request.TheVariants.{Judgment, Unreadable as noRequest}
+use Rattle.answers.specs.declared.numbers.Request.TheVariants.{Judgment, Unreadable as no_request}
 use Rattle.answers.specs.declared.listing.Listing.{Listing}
 use Rattle.answers.specs.declared.listing.Listing.TheVariants.{Judgments, Unreadable, TooMany}
 use Rattle.answers.specs.Numbers.{request_of}

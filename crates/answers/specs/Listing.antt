@@ -3,7 +3,7 @@ use Rattle.std.specs.Prelude.{◌≡◌, cond, List, [], ◌∷◌, ◌++◌, �
 use Rattle.sheets.specs.declared.finding.Wanted.{Wanted}
 use Rattle.answers.specs.declared.numbers.Field.{Field}
 use Rattle.answers.specs.declared.numbers.Request.{Request}
-use Rattle.answers.specs.declared.numbers.Request.TheVariants.{Judgment, Unreadable as noRequest}
+use Rattle.answers.specs.declared.numbers.Request.TheVariants.{Judgment, Unreadable as no_request}
 use Rattle.answers.specs.declared.listing.Listing.{Listing}
 use Rattle.answers.specs.declared.listing.Listing.TheVariants.{Judgments, Unreadable, TooMany}
 use Rattle.answers.specs.Numbers.{spelled, read_number, field_of, request_of}

@@ -5,7 +5,7 @@ use Rattle.answers.specs.declared.numbers.Reading.TheVariants.{Number, Unreadabl
 use Rattle.answers.specs.declared.numbers.Field.{Field}
 use Rattle.answers.specs.declared.numbers.Field.TheVariants.{Number as word, Unreadable as no_word}
 use Rattle.answers.specs.declared.numbers.Request.{Request}
-use Rattle.answers.specs.declared.numbers.Request.TheVariants.{Judgment, Unreadable as noRequest}
+use Rattle.answers.specs.declared.numbers.Request.TheVariants.{Judgment, Unreadable as no_request}
 
 -- a byte is a decimal digit
 unfoldable pub is_digit : ℕ → Bool

@@ -27,7 +27,7 @@ parents (A ∷ B ∷ G) = (B ∷ G) ∷ []
 pub closed_beginnings : (G : Context) → Closed parents (beginnings G)
 unfolding beginnings
 closed_beginnings [] = tt
-closed_beginnings (A ∷ []) = ((λ H m. absurd (Memᴰ.not_nil m)), tt)
+closed_beginnings (A ∷ []) = ((λ H m. absurd (Memᴰ.not-nil m)), tt)
 closed_beginnings (A ∷ B ∷ G) = ((λ H m. here (Memᴰ.eq_of_singleton m)), closed_beginnings (B ∷ G))
 
 -- the context has a last entry

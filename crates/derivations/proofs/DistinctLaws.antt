@@ -60,7 +60,7 @@ module _ {A : Type 0} where
     pub others : (y : A) → y ∈ m → (y ≡ x → ⊥) → y ∈ rest
 
   removed : {x : A} (m : List A) → x ∈ m → Without x m
-  removed [] k = absurd (Memᴰ.not_nil k)
+  removed [] k = absurd (Memᴰ.not-nil k)
   removed {x} (z ∷ m) k = ⊎_elim now (λ q. later (removed m q)) (Memᴰ.cases_cons k)
     where
       now : x ≡ z → Without x (z ∷ m)

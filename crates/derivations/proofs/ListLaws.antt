@@ -27,7 +27,7 @@ module _ {A : Type 0} where
 
   pub of_listed : (f : ℕ → A) (n : ℕ) {x : A} → x ∈ listed f n → Among f n x
   unfolding listed
-  of_listed f zero m = absurd (Memᴰ.not_nil m)
+  of_listed f zero m = absurd (Memᴰ.not-nil m)
   of_listed f (suc n) {x} m = ⊎_elim (λ e. (0, omega arith, e)) (λ k. later (of_listed (λ i. f (suc i)) n k)) (Memᴰ.cases_cons m)
     where
       later : Among (λ i. f (suc i)) n x → Among f (suc n) x
@@ -35,7 +35,7 @@ module _ {A : Type 0} where
 
   -- what stands at one of these places
   pub of_places : (f : ℕ → A) (n : ℕ) (places : List ℕ) → AllBelow n places → {x : A} → x ∈ map f places → Among f n x
-  of_places f n [] b m = absurd (Memᴰ.not_nil m)
+  of_places f n [] b m = absurd (Memᴰ.not-nil m)
   of_places f n (k ∷ places) b m =
       ⊎_elim (λ e. (k, b.0, e)) (λ l. of_places f n places b.1 l) (Memᴰ.cases_cons m)
 
@@ -45,7 +45,7 @@ module _ {A : Type 0} where
   in_place (x ∷ l) (suc i) d h = there (in_place l i d (omega arith))
 
   pub place_of : {x : A} (l : List A) (d : A) → x ∈ l → Among (λ i. get_or l i d) (length l) x
-  place_of [] d m = absurd (Memᴰ.not_nil m)
+  place_of [] d m = absurd (Memᴰ.not-nil m)
   place_of {x} (y ∷ l) d m = ⊎_elim (λ e. (0, omega arith, e)) (λ k. later (place_of l d k)) (Memᴰ.cases_cons m)
     where
       later : Among (λ i. get_or l i d) (length l) x → Among (λ i. get_or (y ∷ l) i d) (suc (length l)) x
@@ -65,8 +65,8 @@ module _ {A : Type 0} where
   pub of_selected : (P : A → Type 0) (used : List Bool) (l : List A) (d : A)
       → ((k : ℕ) → get_or used k false ≡ true → P (get_or l k d)) → {x : A} → x ∈ selected used l → P x
   unfolding selected
-  of_selected P [] l d h m = absurd (Memᴰ.not_nil m)
-  of_selected P (b ∷ used) [] d h m = absurd (Memᴰ.not_nil m)
+  of_selected P [] l d h m = absurd (Memᴰ.not-nil m)
+  of_selected P (b ∷ used) [] d h m = absurd (Memᴰ.not-nil m)
   of_selected P (true ∷ used) (y ∷ l) d h m =
       ⊎_elim (λ e. subst P (sym e) (h 0 refl)) (λ k. of_selected P used l d (λ i. h (suc i)) k) (Memᴰ.cases_cons m)
   of_selected P (false ∷ used) (y ∷ l) d h m = of_selected P used l d (λ i. h (suc i)) m
@@ -74,13 +74,13 @@ module _ {A : Type 0} where
 module _ {A B : Type 0} (f : A → List B) where
   pub in_flat : {y : A} {x : B} (l : List A) → y ∈ l → x ∈ f y → x ∈ flat_map f l
   unfolding flat_map
-  in_flat [] k m = absurd (Memᴰ.not_nil k)
+  in_flat [] k m = absurd (Memᴰ.not-nil k)
   in_flat {y} {x} (z ∷ l) k m =
       ⊎_elim (λ e. Memᴰ.append_left (flat_map f l) (subst (λ w. x ∈ f w) e m)) (λ q. Memᴰ.append_right (f z) (in_flat l q m)) (Memᴰ.cases_cons k)
 
   pub of_flat : {x : B} (l : List A) → x ∈ flat_map f l → (y : A) × (y ∈ l) × (x ∈ f y)
   unfolding flat_map
-  of_flat [] m = absurd (Memᴰ.not_nil m)
+  of_flat [] m = absurd (Memᴰ.not-nil m)
   of_flat {x} (z ∷ l) m = ⊎_elim (λ k. (z, here refl, k)) (λ k. later (of_flat l k)) (Memᴰ.append_cases (f z) m)
     where
       later : (y : A) × (y ∈ l) × (x ∈ f y) → (y : A) × (y ∈ (z ∷ l)) × (x ∈ f y)

@@ -40,7 +40,7 @@ pub record Listing (js : List Judgment) (D : List Term) (E : List Context) : Typ
 -- a beginning has a last entry, which is one of the context's
 begins : (H G : Context) → G ∈ beginnings H → NonEmpty G × (get_or G 0 zer ∈ H)
 unfolding beginnings
-begins [] G m = absurd (Memᴰ.not_nil m)
+begins [] G m = absurd (Memᴰ.not-nil m)
 begins (A ∷ H) G m =
     ⊎_elim (λ e. (record { last = A; rest = H; joined = e }, here (ap (λ K. get_or K 0 zer) e)))
     (λ k. let b = begins H G k in (b.0, there b.1))

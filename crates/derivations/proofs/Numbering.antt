@@ -70,7 +70,7 @@ module _ {A : Type 0} where
     number_rest x y l e = pick_no (d x y) (length l) (number d l x) e
 
     pub number_below : (l : List A) (x : A) → x ∈ l → number d l x < length l
-    number_below [] x m = absurd (Memᴰ.not_nil m)
+    number_below [] x m = absurd (Memᴰ.not-nil m)
     number_below (y ∷ l) x m = at (d x y) (λ k. number_below l x k)
       where
         at : Dec (x ≡ y) → (x ∈ l → number d l x < length l) → number d (y ∷ l) x < suc (length l)
@@ -81,7 +81,7 @@ module _ {A : Type 0} where
 
     -- the element with the number of x is x
     pub numbered_number : (z : A) (l : List A) (x : A) → x ∈ l → numbered z l (number d l x) ≡ x
-    numbered_number z [] x m = absurd (Memᴰ.not_nil m)
+    numbered_number z [] x m = absurd (Memᴰ.not-nil m)
     numbered_number z (y ∷ l) x m = at (d x y) (λ k. numbered_number z l x k)
       where
         at : Dec (x ≡ y) → (x ∈ l → numbered z l (number d l x) ≡ x) → numbered z (y ∷ l) (number d (y ∷ l) x) ≡ x
@@ -127,7 +127,7 @@ module _ {A : Type 0} (parts : A → List A) where
     closed_distinct (x ∷ l) c = closed_before (member? d x l) (λ y k. in_distinct d l y (c.0 y k)) (closed_distinct l c.1)
 
     pub part_in : (l : List A) → Closed l → (x : A) → x ∈ l → (y : A) → y ∈ parts x → y ∈ l
-    part_in [] c x m y k = absurd (Memᴰ.not_nil m)
+    part_in [] c x m y k = absurd (Memᴰ.not-nil m)
     part_in (w ∷ l) c x m y k =
         ⊎_elim (λ e. there (c.0 y (subst (λ v. y ∈ parts v) e k))) (λ q. there (part_in l c.1 x q y k)) (Memᴰ.cases_cons m)
 

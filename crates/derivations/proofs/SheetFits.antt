@@ -85,7 +85,7 @@ module _ (b cs : List ℕ) (T C : ℕ) (table : ContextTable cs T C) where
 
   entry_to : (bound n : ℕ) → n < bound → n ≤ C → (A : Term) → A ∈ context b cs n → Among (term b) T A
   entry_to zero n l h A m = absurd (omega arith)
-  entry_to (suc bound) zero l h A m = absurd (Memᴰ.not_nil (subst (λ G. A ∈ G) (context_empty b cs) m))
+  entry_to (suc bound) zero l h A m = absurd (Memᴰ.not-nil (subst (λ G. A ∈ G) (context_empty b cs) m))
   entry_to (suc bound) (suc n) l h A m =
       let r = table.rows (suc n) (omega arith) h in
       let p = r.earlier in
@@ -99,7 +99,7 @@ module _ (b cs : List ℕ) (T C : ℕ) (table : ContextTable cs T C) where
   begin_to : (bound n : ℕ) → n < bound → n ≤ C → (G : Context) → G ∈ beginnings (context b cs n) → Among (λ k. context b cs (suc k)) C G
   unfolding beginnings
   begin_to zero n l h G m = absurd (omega arith)
-  begin_to (suc bound) zero l h G m = absurd (Memᴰ.not_nil (subst (λ H. G ∈ beginnings H) (context_empty b cs) m))
+  begin_to (suc bound) zero l h G m = absurd (Memᴰ.not-nil (subst (λ H. G ∈ beginnings H) (context_empty b cs) m))
   begin_to (suc bound) (suc n) l h G m =
       let p = (table.rows (suc n) (omega arith) h).earlier in
       ⊎_elim (λ e. (n, h, e ∙ sym (step n h))) (λ k. begin_to bound (parent_of cs (suc n)) (omega arith) (omega arith) G k)

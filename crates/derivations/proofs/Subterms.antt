@@ -72,7 +72,7 @@ module _ {A B : Type 0} (parts : B → List B) (f : A → List B) where
 
 pub closed_subterms : (t : Term) → Closed children (subterms t)
 unfolding subterms children
-closed_subterms = by_shape (λ t. Closed children (subterms t)) (λ i. ((λ y k. absurd (Memᴰ.not_nil k)), tt)) shaped
+closed_subterms = by_shape (λ t. Closed children (subterms t)) (λ i. ((λ y k. absurd (Memᴰ.not-nil k)), tt)) shaped
   where
     shaped : (τ : Tag) (n : ℕ) (x : ℕ → Term) → (τ ≡ Var → ⊥) → (τ ≡ none → ⊥) → AtChildren τ (λ j. Closed children (subterms (x j))) → Closed children (subterms (shape τ n x))
     shaped τ n x v u ih =

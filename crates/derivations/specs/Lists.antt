@@ -21,7 +21,7 @@ next? {A} {x} {y} {l} (no e) (no m) = no (λ h. neither (Memᴰ.cases_cons h))
 -- whether x stands in the list, where equality is decided
 unfoldable pub member? : {A : Type 0} → Discrete A → (x : A) (l : List A) → Dec (x ∈ l)
 unfolding next?
-member? d x [] = no Memᴰ.not_nil
+member? d x [] = no Memᴰ.not-nil
 member? d x (y ∷ l) = next? (d x y) (member? d x l)
 
 -- x put before the list r, unless it stands in l

@@ -4,20 +4,20 @@ use Rattle.std.specs.Prelude.{◌≡◌, List, [], ◌∷◌, ℕ, get_or}
 use Rattle.sheets.specs.declared.admission.Admission.{Admission}
 use Rattle.sheets.specs.declared.admission.Admission.TheVariants.{Accepted, Refused}
 use Rattle.sheets.specs.declared.finding.Found.{Found}
-use Rattle.sheets.specs.declared.finding.Found.TheVariants.{Line, Refused as notFound}
+use Rattle.sheets.specs.declared.finding.Found.TheVariants.{Line, Refused as not_found}
 use Rattle.sheets.specs.declared.batch.Batch.{Batch}
-use Rattle.sheets.specs.declared.batch.Batch.TheVariants.{Answered, Refused as notAnswered}
+use Rattle.sheets.specs.declared.batch.Batch.TheVariants.{Answered, Refused as not_answered}
 use Rattle.sheets.specs.declared.withdrawal.Withdrawal.{Withdrawal}
-use Rattle.sheets.specs.declared.withdrawal.Withdrawal.TheVariants.{Written, Refused as notWritten}
+use Rattle.sheets.specs.declared.withdrawal.Withdrawal.TheVariants.{Written, Refused as not_written}
 use Rattle.sheets.specs.declared.conversion.Conversion.{Conversion}
-use Rattle.sheets.specs.declared.conversion.Conversion.TheVariants.{Written as Converted, Refused as notConverted}
+use Rattle.sheets.specs.declared.conversion.Conversion.TheVariants.{Written as Converted, Refused as not_converted}
 use Rattle.sheets.specs.declared.normality.Normality.{Normality}
-use Rattle.sheets.specs.declared.normality.Normality.TheVariants.{Yes, No, Refused as noTerm}
+use Rattle.sheets.specs.declared.normality.Normality.TheVariants.{Yes, No, Refused as no_term}
 use Rattle.windows.specs.declared.dates.Date.{Date}
 use Rattle.windows.specs.declared.dates.DayNumber.{DayNumber}
-use Rattle.windows.specs.declared.dates.DayNumber.TheVariants.{Day, Refused as noDay}
+use Rattle.windows.specs.declared.dates.DayNumber.TheVariants.{Day, Refused as no_day}
 use Rattle.windows.specs.declared.access.Access.{Access}
-use Rattle.windows.specs.declared.access.Access.TheVariants.{Open, Closed, Refused as noAccess}
+use Rattle.windows.specs.declared.access.Access.TheVariants.{Open, Closed, Refused as no_access}
 use Rattle.windows.specs.Dates.{date_of}
 use Rattle.mengyubad.specs.declared.Reply.{Reply}
 

@@ -11,15 +11,15 @@ use Rattle.terms.specs.Table.{TermTable, RowFault, broken, repeated, large, Tree
 use Rattle.terms.specs.Sizes.{check_terms}
 use Rattle.terms.specs.Buffers.{over}
 use Rattle.terms.specs.declared.sizes.TermsAnswer.{TermsAnswer}
-use Rattle.terms.specs.declared.sizes.TermsAnswer.TheVariants.{NoFault as noTermFault, Faulty as faultyTerms}
+use Rattle.terms.specs.declared.sizes.TermsAnswer.TheVariants.{NoFault as no_term_fault, Faulty as faulty_terms}
 use Rattle.terms.proofs.TableLaws.{check_faultless, check_faulty, faultless_sizes, faulty_sizes}
 use Rattle.rules.specs.Contexts.{ContextTable, check_contexts}
 use Rattle.rules.specs.declared.contexts.ContextsAnswer.{ContextsAnswer}
-use Rattle.rules.specs.declared.contexts.ContextsAnswer.TheVariants.{NoFault as noContextFault, Faulty as faultyContexts}
+use Rattle.rules.specs.declared.contexts.ContextsAnswer.TheVariants.{NoFault as no_context_fault, Faulty as faulty_contexts}
 use Rattle.rules.proofs.ContextTableCheckLaws.{check_faultless as contexts_faultless, check_faulty as contexts_faulty}
 use Rattle.sheets.specs.declared.layout.Layout.{Layout}
 use Rattle.sheets.specs.declared.lines.LinesAnswer.{LinesAnswer}
-use Rattle.sheets.specs.declared.lines.LinesAnswer.TheVariants.{NoFault as noLineFault, Faulty as faultyLines}
+use Rattle.sheets.specs.declared.lines.LinesAnswer.TheVariants.{NoFault as no_line_fault, Faulty as faulty_lines}
 use Rattle.sheets.specs.declared.admission.Admission.{Admission}
 use Rattle.sheets.specs.declared.admission.Admission.TheVariants.{Accepted, Refused}
 use Rattle.sheets.specs.Layout.{contexts_in, trailer_of}

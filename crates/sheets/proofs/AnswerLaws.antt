@@ -9,11 +9,11 @@ use Rattle.terms.specs.Table.{TermTable}
 use Rattle.terms.specs.Sizes.{check_terms}
 use Rattle.terms.specs.Buffers.{over}
 use Rattle.terms.specs.declared.sizes.TermsAnswer.{TermsAnswer}
-use Rattle.terms.specs.declared.sizes.TermsAnswer.TheVariants.{NoFault as noTermFault}
+use Rattle.terms.specs.declared.sizes.TermsAnswer.TheVariants.{NoFault as no_term_fault}
 use Rattle.terms.proofs.TableLaws.{check_faultless}
 use Rattle.rules.specs.Contexts.{check_contexts}
 use Rattle.rules.specs.declared.contexts.ContextsAnswer.{ContextsAnswer}
-use Rattle.rules.specs.declared.contexts.ContextsAnswer.TheVariants.{NoFault as noContextFault, Faulty as faultyContexts}
+use Rattle.rules.specs.declared.contexts.ContextsAnswer.TheVariants.{NoFault as no_context_fault, Faulty as faulty_contexts}
 use Rattle.rules.proofs.ContextTableCheckLaws.{check_faultless as contexts_faultless}
 use Rattle.sheets.specs.declared.layout.Layout.{Layout}
 use Rattle.sheets.specs.declared.layout.Layout.TheVariants.{Counted, Wrong}

@@ -8,15 +8,15 @@ use Prim.Native.Nat.{ℕ, ◌≤◌}
 use native.Mathlib.Omega.{arith}
 use lib.ListN.{length}
 use Rattle.sheets.specs.declared.admission.Admission.{Admission}
-use Rattle.sheets.specs.declared.admission.Admission.TheVariants.{Accepted, Refused as notAdmitted}
+use Rattle.sheets.specs.declared.admission.Admission.TheVariants.{Accepted, Refused as not_admitted}
 use Rattle.sheets.specs.declared.finding.Wanted.{Wanted}
 use Rattle.sheets.specs.declared.finding.Found.{Found}
-use Rattle.sheets.specs.declared.finding.Found.TheVariants.{Line, Refused as notFound}
+use Rattle.sheets.specs.declared.finding.Found.TheVariants.{Line, Refused as not_found}
 use Rattle.sheets.specs.declared.withdrawal.Withdrawal.{Withdrawal}
 use Rattle.sheets.specs.declared.withdrawal.Withdrawal.TheVariants.{Written, Refused}
 use Rattle.sheets.specs.declared.conversion.Conversion.{Conversion}
 use Rattle.sheets.specs.declared.conversion.Conversion.TheVariants.{Written as Converted}
-use Rattle.sheets.specs.declared.conversion.Conversion.TheVariants.{Refused as notConverted}
+use Rattle.sheets.specs.declared.conversion.Conversion.TheVariants.{Refused as not_converted}
 use Rattle.sheets.specs.Layout.{trailer_of}
 use Rattle.sheets.specs.Admission.{admit_of, work_after}
 use Rattle.sheets.specs.Good.{Good}

@@ -14,7 +14,7 @@ use Rattle.terms.specs.Lists.{listed}
 use Rattle.terms.specs.Buffers.{over}
 use Rattle.terms.proofs.Tests.{refutes, says_lt, clash}
 use Rattle.sheets.specs.declared.admission.Admission.{Admission}
-use Rattle.sheets.specs.declared.admission.Admission.TheVariants.{Accepted, Refused as notAdmitted}
+use Rattle.sheets.specs.declared.admission.Admission.TheVariants.{Accepted, Refused as not_admitted}
 use Rattle.sheets.specs.declared.finding.Wanted.{Wanted}
 use Rattle.sheets.specs.declared.finding.Found.{Found}
 use Rattle.sheets.specs.declared.batch.Batch.{Batch}

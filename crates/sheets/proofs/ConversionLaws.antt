@@ -12,7 +12,7 @@ use lib.Seq.{take_at}
 use borrow.Author.Tests.{lt-ltb, le-ltb, le-leb, lt-leb}
 use Rattle.terms.specs.Buffers.{over}
 use Rattle.sheets.specs.declared.admission.Admission.{Admission}
-use Rattle.sheets.specs.declared.admission.Admission.TheVariants.{Accepted, Refused as notAdmitted}
+use Rattle.sheets.specs.declared.admission.Admission.TheVariants.{Accepted, Refused as not_admitted}
 use Rattle.sheets.specs.declared.conversion.Conversion.{Conversion}
 use Rattle.sheets.specs.declared.conversion.Conversion.TheVariants.{Written, Refused}
 use Rattle.sheets.specs.Layout.{lines_in, trailer_word, trailer_of, edition_of}

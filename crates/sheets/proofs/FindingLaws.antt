@@ -13,7 +13,7 @@ use lib.ListN.{get_or}
 use Rattle.terms.specs.Decides.{Decides}
 use Rattle.terms.proofs.Tests.{says_eq, decides_via, ◌&◌, clash}
 use Rattle.rules.specs.declared.judgments.LineJudgment.{LineJudgment}
-use Rattle.sheets.specs.declared.admission.Admission.TheVariants.{Accepted, Refused as notAdmitted}
+use Rattle.sheets.specs.declared.admission.Admission.TheVariants.{Accepted, Refused as not_admitted}
 use Rattle.sheets.specs.declared.finding.Wanted.{Wanted}
 use Rattle.sheets.specs.declared.finding.Found.TheVariants.{Line, Refused}
 use Rattle.sheets.specs.Layout.{edition_of, lines_in}

@@ -18,7 +18,7 @@ use Rattle.terms.specs.NormalForms.{Normal, is_normal}
 use Rattle.terms.proofs.Tests.{says_yes, says_no, refuted, decides_same}
 use Rattle.terms.proofs.NormalLaws.{normal_decided, no_beta}
 use Rattle.sheets.specs.declared.admission.Admission.{Admission}
-use Rattle.sheets.specs.declared.admission.Admission.TheVariants.{Accepted, Refused as notAdmitted}
+use Rattle.sheets.specs.declared.admission.Admission.TheVariants.{Accepted, Refused as not_admitted}
 use Rattle.sheets.specs.declared.normality.Normality.{Normality}
 use Rattle.sheets.specs.declared.normality.Normality.TheVariants.{Yes, Refused}
 use Rattle.sheets.specs.Admission.{admit_of}

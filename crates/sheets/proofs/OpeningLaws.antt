@@ -10,10 +10,10 @@ use lib.ListN.{length, take, drop, length-drop}
 use Rattle.terms.specs.Lists.{listed}
 use Rattle.terms.specs.Buffers.{over}
 use Rattle.terms.proofs.Tests.{refutes, says_lt, says_eq}
-use Rattle.sheets.specs.declared.admission.Admission.TheVariants.{Accepted, Refused as notAdmitted}
+use Rattle.sheets.specs.declared.admission.Admission.TheVariants.{Accepted, Refused as not_admitted}
 use Rattle.sheets.specs.declared.finding.Wanted.{Wanted}
 use Rattle.sheets.specs.declared.finding.Found.{Found}
-use Rattle.sheets.specs.declared.finding.Found.TheVariants.{Line, Refused as notFound}
+use Rattle.sheets.specs.declared.finding.Found.TheVariants.{Line, Refused as not_found}
 use Rattle.sheets.specs.declared.opening.Opened.{Opened}
 use Rattle.sheets.specs.declared.batch.Batch.{Batch}
 use Rattle.sheets.specs.declared.batch.Batch.TheVariants.{Answered, Refused}

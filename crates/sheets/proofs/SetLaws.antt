@@ -15,7 +15,7 @@ use Rattle.terms.specs.Decides.{Decides}
 use Rattle.terms.specs.Buffers.{over}
 use Rattle.terms.proofs.Tests.{either, refutes, refuted, says_lt, says_le, ◌&◌}
 use Rattle.sheets.specs.declared.admission.Admission.{Admission}
-use Rattle.sheets.specs.declared.admission.Admission.TheVariants.{Accepted, Refused as notAdmitted}
+use Rattle.sheets.specs.declared.admission.Admission.TheVariants.{Accepted, Refused as not_admitted}
 use Rattle.sheets.specs.declared.withdrawal.Withdrawal.{Withdrawal}
 use Rattle.sheets.specs.declared.withdrawal.Withdrawal.TheVariants.{Refused}
 use Rattle.sheets.specs.Layout.{edition_of, lines_in}

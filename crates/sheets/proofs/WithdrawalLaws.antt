@@ -16,7 +16,7 @@ use Rattle.terms.proofs.Tests.{says_lt, says_eq, decides_via, ◌&◌, decides_e
 use Rattle.terms.proofs.SearchLaws.{stops, passes, search_means, FirstOf, first_tells}
 use Rattle.rules.specs.RuleTable.{premise_count}
 use Rattle.sheets.specs.declared.lines.Line.{Line}
-use Rattle.sheets.specs.declared.admission.Admission.TheVariants.{Accepted, Refused as notAdmitted}
+use Rattle.sheets.specs.declared.admission.Admission.TheVariants.{Accepted, Refused as not_admitted}
 use Rattle.sheets.specs.declared.withdrawal.Withdrawal.{Withdrawal}
 use Rattle.sheets.specs.declared.withdrawal.Withdrawal.TheVariants.{Written, Refused}
 use Rattle.sheets.specs.Layout.{edition_of, lines_in}

@@ -3,14 +3,14 @@ use Rattle.std.specs.Prelude.{List, ℕ, length}
 use Rattle.terms.specs.Sizes.{check_terms}
 use Rattle.terms.specs.Buffers.{over}
 use Rattle.terms.specs.declared.sizes.TermsAnswer.{TermsAnswer}
-use Rattle.terms.specs.declared.sizes.TermsAnswer.TheVariants.{NoFault as noTermFault, Faulty as faultyTerms}
+use Rattle.terms.specs.declared.sizes.TermsAnswer.TheVariants.{NoFault as no_term_fault, Faulty as faulty_terms}
 use Rattle.rules.specs.Contexts.{check_contexts}
 use Rattle.rules.specs.declared.contexts.ContextsAnswer.{ContextsAnswer}
-use Rattle.rules.specs.declared.contexts.ContextsAnswer.TheVariants.{NoFault as noContextFault, Faulty as faultyContexts}
+use Rattle.rules.specs.declared.contexts.ContextsAnswer.TheVariants.{NoFault as no_context_fault, Faulty as faulty_contexts}
 use Rattle.sheets.specs.declared.layout.Layout.{Layout}
 use Rattle.sheets.specs.declared.layout.Layout.TheVariants.{Counted, Wrong}
 use Rattle.sheets.specs.declared.lines.LinesAnswer.{LinesAnswer}
-use Rattle.sheets.specs.declared.lines.LinesAnswer.TheVariants.{NoFault as noLineFault, Faulty as faultyLines}
+use Rattle.sheets.specs.declared.lines.LinesAnswer.TheVariants.{NoFault as no_line_fault, Faulty as faulty_lines}
 use Rattle.sheets.specs.declared.admission.Admission.{Admission}
 use Rattle.sheets.specs.declared.admission.Admission.TheVariants.{Accepted, Refused}
 use Rattle.sheets.specs.Layout.{contexts_in, layout_of}

@@ -5,11 +5,11 @@
 use Rattle.std.specs.Prelude.{List, ℕ, ◌≤◌, ◌<◌}
 use Rattle.sheets.specs.declared.finding.Wanted.{Wanted}
 use Rattle.sheets.specs.declared.finding.Found.{Found}
-use Rattle.sheets.specs.declared.finding.Found.TheVariants.{Line, Refused as notFound}
+use Rattle.sheets.specs.declared.finding.Found.TheVariants.{Line, Refused as not_found}
 use Rattle.sheets.specs.declared.withdrawal.Withdrawal.{Withdrawal}
 use Rattle.sheets.specs.declared.withdrawal.Withdrawal.TheVariants.{Refused}
 use Rattle.sheets.specs.declared.conversion.Conversion.{Conversion}
-use Rattle.sheets.specs.declared.conversion.Conversion.TheVariants.{Refused as notConverted}
+use Rattle.sheets.specs.declared.conversion.Conversion.TheVariants.{Refused as not_converted}
 use Rattle.sheets.specs.Layout.{edition_of, lines_in}
 use Rattle.sheets.specs.Good.{Good, FirstFault}
 use Rattle.sheets.specs.Finding.{LineHas, EasiestLine}

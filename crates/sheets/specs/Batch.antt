@@ -4,10 +4,10 @@ use Rattle.std.specs.Prelude.{◌≡◌, true, false, List, map, ℕ, ◌*◌, �
 use Rattle.terms.specs.Lists.{listed}
 use Rattle.terms.specs.Buffers.{over}
 use Rattle.sheets.specs.declared.admission.Admission.{Admission}
-use Rattle.sheets.specs.declared.admission.Admission.TheVariants.{Accepted, Refused as notAdmitted}
+use Rattle.sheets.specs.declared.admission.Admission.TheVariants.{Accepted, Refused as not_admitted}
 use Rattle.sheets.specs.declared.finding.Wanted.{Wanted}
 use Rattle.sheets.specs.declared.finding.Found.{Found}
-use Rattle.sheets.specs.declared.finding.Found.TheVariants.{Line, Refused as notFound}
+use Rattle.sheets.specs.declared.finding.Found.TheVariants.{Line, Refused as not_found}
 use Rattle.sheets.specs.declared.batch.Batch.{Batch}
 use Rattle.sheets.specs.declared.batch.Batch.TheVariants.{Answered, Refused}
 use Rattle.sheets.specs.Admission.{admit_of}

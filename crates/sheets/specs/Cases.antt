@@ -5,7 +5,7 @@ use Rattle.sheets.specs.declared.admission.Admission.{Admission}
 use Rattle.sheets.specs.declared.admission.Admission.TheVariants.{Accepted, Refused}
 use Rattle.sheets.specs.Admission.{admit_of, work_after}
 use Rattle.sheets.specs.declared.withdrawal.Withdrawal.{Withdrawal}
-use Rattle.sheets.specs.declared.withdrawal.Withdrawal.TheVariants.{Written, Refused as noWithdrawal}
+use Rattle.sheets.specs.declared.withdrawal.Withdrawal.TheVariants.{Written, Refused as no_withdrawal}
 use Rattle.terms.specs.Words.{bytes_of}
 use Rattle.sheets.specs.Withdrawal.{withdraw_of, out_after}
 

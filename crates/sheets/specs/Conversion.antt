@@ -7,7 +7,7 @@ use Rattle.terms.specs.Lists.{listed}
 use Rattle.rules.specs.Editions.{motive_asked, AsksMotive}
 use Rattle.rules.specs.Motives.{gives_motive, GivesMotive}
 use Rattle.sheets.specs.declared.admission.Admission.{Admission}
-use Rattle.sheets.specs.declared.admission.Admission.TheVariants.{Accepted, Refused as notAdmitted}
+use Rattle.sheets.specs.declared.admission.Admission.TheVariants.{Accepted, Refused as not_admitted}
 use Rattle.sheets.specs.declared.conversion.Conversion.{Conversion}
 use Rattle.sheets.specs.declared.conversion.Conversion.TheVariants.{Written, Refused}
 use Rattle.sheets.specs.Layout.{edition_of, trailer_of}

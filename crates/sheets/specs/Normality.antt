@@ -4,7 +4,7 @@ use Rattle.std.specs.Prelude.{Bool, true, false, List, ℕ, ◌≤◌, ◌<◌, 
 use Rattle.terms.specs.Rows.{term}
 use Rattle.terms.specs.NormalForms.{Normal, is_normal}
 use Rattle.sheets.specs.declared.admission.Admission.{Admission}
-use Rattle.sheets.specs.declared.admission.Admission.TheVariants.{Accepted, Refused as notAdmitted}
+use Rattle.sheets.specs.declared.admission.Admission.TheVariants.{Accepted, Refused as not_admitted}
 use Rattle.sheets.specs.declared.normality.Normality.{Normality}
 use Rattle.sheets.specs.declared.normality.Normality.TheVariants.{Yes, No, Refused}
 use Rattle.sheets.specs.Admission.{admit_of}

@@ -6,7 +6,7 @@ use Rattle.terms.specs.Buffers.{over}
 use Rattle.rules.specs.RuleTable.{premise_count}
 use Rattle.sheets.specs.declared.lines.Line.{Line}
 use Rattle.sheets.specs.declared.admission.Admission.{Admission}
-use Rattle.sheets.specs.declared.admission.Admission.TheVariants.{Accepted, Refused as notAdmitted}
+use Rattle.sheets.specs.declared.admission.Admission.TheVariants.{Accepted, Refused as not_admitted}
 use Rattle.sheets.specs.declared.withdrawal.Withdrawal.{Withdrawal}
 use Rattle.sheets.specs.declared.withdrawal.Withdrawal.TheVariants.{Written, Refused}
 use Rattle.sheets.specs.Layout.{edition_of, lines_in, trailer_of, distance_to_terms}

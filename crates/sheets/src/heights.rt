@@ -20,7 +20,7 @@ fn higher(m: u16, n: u16) -> u16
 }
 
 // One more than a height; that it is small is known of a parameter, not of an array's element.
-fn one_more_lem(height: u16) -> usize
+fn one_more(height: u16) -> usize
     ensures { result ≡ height + 1 }
 {
     height as usize + 1
@@ -40,7 +40,7 @@ fn height_of(table: &[u8; 690], line: Line, heights: &[u16; 1024]) -> usize
     let q = line.p1;
     let r = line.p2;
     let s = line.p3;
-    one_more_lem(higher(
+    one_more(higher(
         higher(heights[p], heights[q]),
         higher(heights[r], heights[s]),
     ))
