@@ -99,8 +99,11 @@ conversion_is bytes work room =
 pub set_written_fits : (bytes set : List ℕ) (work room l : ℕ) → withdraw_set_of bytes set work room ≡ Written l → l ≤ room
 set_written_fits bytes set work room l e = at ((set_withdrawal_is bytes work set room (Written l)).0 e)
   where
+    within : {T C L m : ℕ} → AdmittedSetMeans bytes T C L set room (Written m) → m ≤ room
+    within (withdrawn rising all none k) = k
+
     at : {m : ℕ} → SetWithdrawalMeans bytes work set room (Written m) → m ≤ room
-    at (admitted g fits (withdrawn rising all none k)) = k
+    at (admitted g fits answer) = within answer
 
 pub converted_fits : (bytes : List ℕ) (work room l : ℕ) → convert_of bytes work room ≡ Converted l → l ≤ room
 converted_fits bytes work room l e = at ((conversion_is bytes work room (Converted l)).0 e)

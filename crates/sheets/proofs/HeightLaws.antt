@@ -52,12 +52,17 @@ module _ (h : ℕ → ℕ) where
           subst (HeightMeans h (c ∷ cited)) (ap suc top.2)
           (one_more top.0 top.1 (λ k l. omega (arith, top.2, greatest_most (c ∷ cited) k l)))
 
-      to : {m : ℕ} (cited : List ℕ) → HeightMeans h cited m → above (map h cited) ≡ m
-      to cited (no_premise e) = ap (λ l. above (map h l)) e
-      to [] (one_more j within highest) = absurd (omega arith)
-      to (c ∷ cited) (one_more j within highest) =
+      higher : (cited : List ℕ) (j : ℕ) → j < length cited
+          → ((k : ℕ) → k < length cited → h (get_or cited k 0) ≤ h (get_or cited j 0))
+          → above (map h cited) ≡ suc (h (get_or cited j 0))
+      higher [] j within highest = absurd (omega arith)
+      higher (c ∷ cited) j within highest =
           let top = greatest_at c cited in
           omega (arith, top.2, highest top.0 top.1, greatest_most (c ∷ cited) j within)
+
+      to : (cited : List ℕ) {m : ℕ} → HeightMeans h cited m → above (map h cited) ≡ m
+      to cited (no_premise e) = ap (λ l. above (map h l)) e
+      to cited (one_more j within highest) = higher cited j within highest
 
 -- the first count lines cite earlier ones
 module _ (cites : ℕ → List ℕ) (count : ℕ) (earlier : (n : ℕ) → n < count → AllBelow n (cites n)) where

@@ -16,7 +16,7 @@ use Rattle.sheets.specs.GoodLayout.{trailer_for}
 use Rattle.sheets.specs.Accepted.{Bytes}
 use Rattle.sheets.specs.LineSets.{Stays, count_below, new_number}
 use Rattle.sheets.specs.Withdrawal.{lower_premise, new_length, sheet_without, without_line}
-use Rattle.sheets.specs.Withdrawal.{withdraw_of, out_from, out_after, written}
+use Rattle.sheets.specs.Withdrawal.{withdraw_of, out_from, out_after, AdmittedWithdrawalMeans, written}
 use Rattle.sheets.specs.WithdrawalSet.{kept_length, without_lines, AllLines}
 use Rattle.sheets.specs.Output.{MovedLine, LineAway, WrittenLeft, OutputLeft}
 use Rattle.sheets.specs.SetOutput.{Renumbered, LinesAway, SetWrittenLeft}
@@ -123,8 +123,12 @@ module _ (bytes : List ℕ) (n work : ℕ) (before : List ℕ) where
   left (Refused number place) m = refl
   left (Written new) m = at m
     where
+      here : {T C L l : ℕ} → Good bytes T C L → AdmittedWithdrawalMeans bytes T C L n (length before) (Written l)
+          → WrittenLeft bytes n before (over (without_line bytes n) before) l
+      here g (written h u room) = sheet_left g h before room
+
       at : {l : ℕ} → Means (Written l) → WrittenLeft bytes n before (over (without_line bytes n) before) l
-      at (admitted g fits (written h u room)) = sheet_left g h before room
+      at (admitted g fits answer) = here g answer
 
   only : (a : Withdrawal) → Means a → (after : List ℕ) → Bytes after → OutputLeft bytes n before after a
       → after ≡ out_from (without_line bytes n) before a
@@ -132,8 +136,12 @@ module _ (bytes : List ℕ) (n work : ℕ) (before : List ℕ) where
   only (Refused number place) m after b o = o
   only (Written new) m after b o = at m o
     where
+      here : {T C L l : ℕ} → Good bytes T C L → AdmittedWithdrawalMeans bytes T C L n (length before) (Written l)
+          → WrittenLeft bytes n before after l → after ≡ over (without_line bytes n) before
+      here g (written h u room) k = sheet_only g h before after b k
+
       at : {l : ℕ} → Means (Written l) → WrittenLeft bytes n before after l → after ≡ over (without_line bytes n) before
-      at (admitted g fits (written h u room)) k = sheet_only g h before after b k
+      at (admitted g fits answer) k = here g answer k
 
   module _ (a : Withdrawal) (answer : withdraw_of bytes n work (length before) ≡ a) where
     means : Means a

@@ -14,7 +14,8 @@ use Rattle.sheets.specs.GoodLayout.{trailer_for}
 use Rattle.sheets.specs.Accepted.{Bytes}
 use Rattle.sheets.specs.LineSets.{Rises}
 use Rattle.sheets.specs.Withdrawal.{lines_start, out_from}
-use Rattle.sheets.specs.WithdrawalSet.{kept_length, withdraw_set_of, without_lines, set_out_after, AllLines, withdrawn}
+use Rattle.sheets.specs.WithdrawalSet.{kept_length, withdraw_set_of, without_lines, set_out_after, AllLines}
+use Rattle.sheets.specs.WithdrawalSet.{AdmittedSetMeans, withdrawn}
 use Rattle.sheets.specs.SetOutput.{LinesAway, SetWrittenLeft, SetOutputLeft}
 use Rattle.sheets.specs.Answered.{SetWithdrawalMeans, admitted}
 use Rattle.sheets.proofs.BufferLaws.{over_length, over_beyond, over_only}
@@ -84,8 +85,12 @@ module _ (bytes set : List ℕ) (work : ℕ) (before : List ℕ) where
   left (Refused number place) m = refl
   left (Written new) m = at m
     where
+      here : {T C L l : ℕ} → Good bytes T C L → AdmittedSetMeans bytes T C L set (length before) (Written l)
+          → SetWrittenLeft bytes set before (over (without_lines bytes set) before) l
+      here g (withdrawn rising all none room) = written_left g set rising all before room
+
       at : {l : ℕ} → Means (Written l) → SetWrittenLeft bytes set before (over (without_lines bytes set) before) l
-      at (admitted g fits (withdrawn rising all none room)) = written_left g set rising all before room
+      at (admitted g fits answer) = here g answer
 
   only : Bytes bytes → (a : Withdrawal) → Means a → (after : List ℕ) → Bytes after
       → SetOutputLeft bytes set before after a → after ≡ out_from (without_lines bytes set) before a
@@ -93,10 +98,14 @@ module _ (bytes set : List ℕ) (work : ℕ) (before : List ℕ) where
   only sheet (Refused number place) m after b o = o
   only sheet (Written new) m after b o = at m o
     where
+      here : {T C L l : ℕ} → Good bytes T C L → AdmittedSetMeans bytes T C L set (length before) (Written l)
+          → SetWrittenLeft bytes set before after l → after ≡ over (without_lines bytes set) before
+      here g (withdrawn rising all none room) k =
+          left_only g set rising all before (left_of_words g.tables.laid sheet set) after b k
+
       at : {l : ℕ} → Means (Written l) → SetWrittenLeft bytes set before after l
           → after ≡ over (without_lines bytes set) before
-      at (admitted g fits (withdrawn rising all none room)) k =
-          left_only g set rising all before (left_of_words g.tables.laid sheet set) after b k
+      at (admitted g fits answer) k = here g answer k
 
   module _ (a : Withdrawal) (answer : withdraw_set_of bytes set work (length before) ≡ a) where
     means : Means a
