@@ -1,0 +1,15 @@
+use Rattle.rules.proofs.ContextTableAnswers.{empty_says, type_given, extends_nat_says}
+use borrow.Author.Rules.{rules}
+use Rattle.rules.proofs.contexts.extends_nat.Goals as goal
+
+pub returns-then-n-eq0 : goal.returns-then-n-eq0
+returns-then-n-eq0 c = empty_says _ _ _ _ _ c.if-n-eq0.true
+
+pub is_node-requires : goal.is_node-requires
+is_node-requires c =
+    type_given _ _ _ _ _ c.requires c.if-n-eq0.false c.type_of.ensures.value
+
+pub returns : goal.returns
+returns c =
+    extends_nat_says _ _ _ _ _ _ _ c.requires c.if-n-eq0.false c.type_of.ensures.value
+    c.is_node.ensures c.parent.ensures.value

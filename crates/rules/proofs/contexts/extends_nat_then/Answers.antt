@@ -1,0 +1,15 @@
+use Rattle.rules.proofs.ContextTableAnswers.{empty_says, parent_given, extends_then_says}
+use borrow.Author.Rules.{rules}
+use Rattle.rules.proofs.contexts.extends_nat_then.Goals as goal
+
+pub returns-then-n-eq0 : goal.returns-then-n-eq0
+returns-then-n-eq0 c = empty_says _ _ _ _ _ c.if-n-eq0.true
+
+pub extends_nat-requires : goal.extends_nat-requires
+extends_nat-requires c =
+    parent_given _ _ _ _ _ c.requires.given c.if-n-eq0.false c.parent.ensures.value
+
+pub returns : goal.returns
+returns c =
+    extends_then_says _ _ _ _ _ _ _ _ c.requires c.if-n-eq0.false c.type_of.ensures.value
+    c.parent.ensures.value c.extends_nat.ensures

@@ -1,0 +1,11 @@
+use mathlib.Core.Path.{refl, ◌∙◌, ap}
+use Rattle.rules.specs.declared.contexts.FoundEntry.TheVariants.{At}
+use Rattle.rules.proofs.ContextTableEntries.{found_here, found_none}
+use borrow.Author.Rules.{rules}
+use Rattle.rules.proofs.contexts.nearest.Goals as goal
+
+pub returns-then-n-eq0 : goal.returns-then-n-eq0
+returns-then-n-eq0 c = found_none _ _ _ c.if-n-eq0.true
+
+pub returns : goal.returns
+returns c = ap At c.type_of.ensures.value ∙ found_here _ _ _ c.if-n-eq0.false refl

@@ -1,0 +1,12 @@
+use mathlib.Core.Path.{subst, sym}
+use Prim.Native.Nat.{◌≤◌}
+use Rattle.rules.specs.RuleTable.{premise_count}
+use Rattle.rules.proofs.TableLaws.{row_agrees}
+use borrow.Author.Rules.{rules}
+use Rattle.rules.proofs.table.premise_count.Goals as goal
+
+pub returns : goal.returns
+unfolding premise_count
+returns c =
+    let e = c.table_at.ensures in
+    record { value = e; range = subst (λ n. n ≤ 4) (sym e) (row_agrees c.args.rule c.requires.rule).count }

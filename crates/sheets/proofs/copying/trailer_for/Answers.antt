@@ -1,0 +1,26 @@
+use mathlib.Core.Path.{◌≡◌}
+use Prim.Native.Nat.{ℕ, ◌+◌, ◌*◌}
+use native.Mathlib.Omega.{arith}
+use Rattle.sheets.specs.Layout.{distance_to_contexts, distance_to_lines, distance_to_terms}
+use Rattle.sheets.specs.GoodLayout.{trailer_for}
+use borrow.Author.Rules.{rules}
+use Rattle.sheets.proofs.copying.trailer_for.Goals as goal
+
+-- the distance to the terms is summed in another order
+terms-away : (T C L : ℕ) → 10 * T + distance_to_contexts C L ≡ distance_to_terms T C L
+terms-away T C L = omega arith
+
+pub returns : goal.returns
+unfolding trailer_for
+returns c =
+    let a = c.args in
+    λ i. record {
+      terms = a.terms;
+      contexts = a.contexts;
+      lines = a.lines;
+      edition = a.edition;
+      to_terms = terms-away a.terms a.contexts a.lines i;
+      to_contexts = distance_to_contexts a.contexts a.lines;
+      to_lines = distance_to_lines a.lines;
+      mark = 0x4C44;
+    }

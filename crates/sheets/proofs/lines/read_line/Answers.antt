@@ -1,0 +1,7 @@
+use Rattle.sheets.specs.Lines.{line_of}
+use borrow.Author.Rules.{rules}
+use Rattle.sheets.proofs.lines.read_line.Goals as goal
+
+pub returns : goal.returns
+unfolding line_of
+returns c = cc

@@ -1,0 +1,7 @@
+use Rattle.sheets.specs.Finding.{has_numbers}
+use borrow.Author.Rules.{rules}
+use Rattle.sheets.proofs.searching.has_numbers.Goals as goal
+
+pub returns : goal.returns
+unfolding has_numbers
+returns c = cc
