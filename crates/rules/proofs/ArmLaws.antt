@@ -182,14 +182,11 @@ module _ {terms contexts : List ℕ} {rule : ℕ} {premises : List LineJudgment}
   wrong_shape d f = says_no (λ i. refuted d f (unshaped terms contexts rule premises c i g.given.term_count g.given.count g.used))
 
 -- the arm of a `match` at rule n, over a line that keeps the layout and whose premises are shaped
-module _ {terms contexts : List ℕ} {rule : ℕ} {premises : List LineJudgment} {c : LineJudgment} {R : Type 0}
-    (given : LineInTables terms contexts rule premises c × (Shaped terms contexts rule premises c × R)) {n : ℕ} (e : rule ≡ n) where
-  abbrev g : LineInTables terms contexts rule premises c
-  g = given.0
-
+module _ {terms contexts : List ℕ} {rule : ℕ} {premises : List LineJudgment} {c : LineJudgment}
+    (g : LineInTables terms contexts rule premises c) (shaped : Shaped terms contexts rule premises c) {n : ℕ} (e : rule ≡ n) where
   pub by_arm : {r : Bool} → Decides r (FollowsPlaced terms contexts n (used_premises n premises) c) → Decides r (Follows terms contexts rule premises c)
   by_arm {r} d =
-      decides_via (placed terms contexts rule premises c g.concludes given.1.0)
+      decides_via (placed terms contexts rule premises c g.concludes shaped)
       (subst (λ m. Decides r (FollowsPlaced terms contexts m (used_premises m premises) c)) (sym e) d)
 
   rows_below : AllBelow g.given.term_count (rule_subjects n (used_premises n premises) c)
@@ -218,29 +215,28 @@ module _ {terms contexts : List ℕ} {rule : ℕ} {premises : List LineJudgment}
       }
 
 -- the group of a rule that holds in the empty context alone: what it is given, and what its answer decides
-module _ {terms contexts : List ℕ} {rule : ℕ} {premises : List LineJudgment} {c : LineJudgment} {R : Type 0}
-    (given : LineInTables terms contexts rule premises c × (Shaped terms contexts rule premises c × R)) where
+module _ {terms contexts : List ℕ} {rule : ℕ} {premises : List LineJudgment} {c : LineJudgment}
+    (line : LineInTables terms contexts rule premises c) (shaped : Shaped terms contexts rule premises c) where
   pub given_empty : SubjectsInTable terms rule premises c
-  given_empty = record { rows = rows_known (given_arm given refl) }
+  given_empty = record { rows = rows_known (given_arm line shaped refl) }
 
   pub by_group : {r : Bool} → last_form_in_context < form_of rule → DecidesInEmpty r terms rule premises c
       → Decides r (Follows terms contexts rule premises c)
   by_group {r} behind d =
-      by_arm given refl
+      by_arm line shaped refl
       (subst (λ G. Decides r (FollowsIn terms contexts rule G (used_premises rule premises) c)) (sym empty) (d contexts))
     where
       empty : context terms contexts c.context ≡ []
       empty =
-          let line = given.0 in
           let form : last_form_in_context < c.form = subst (λ f. last_form_in_context < f) (sym line.concludes) behind in
           ap (context terms contexts) (line.conclusion.empty form) ∙ context_empty terms contexts
 
 -- the arm of a `match` at rule n in such a group
-module _ {terms : List ℕ} {rule : ℕ} {premises : List LineJudgment} {c : LineJudgment} {R : Type 0}
-    (given : SubjectsInTable terms rule premises c × R) {n : ℕ} (e : rule ≡ n) where
+module _ {terms : List ℕ} {rule : ℕ} {premises : List LineJudgment} {c : LineJudgment}
+    (given : SubjectsInTable terms rule premises c) {n : ℕ} (e : rule ≡ n) where
   -- the rows of the rule's subjects
   pub arm_rows : RowsInTable terms (rule_subjects n (used_premises n premises) c)
-  arm_rows = subst (λ m. RowsInTable terms (rule_subjects m (used_premises m premises) c)) e given.0.rows
+  arm_rows = subst (λ m. RowsInTable terms (rule_subjects m (used_premises m premises) c)) e given.rows
 
   -- by the rule's own check
   pub by_check : {r : Bool} → DecidesInEmpty r terms n premises c → DecidesInEmpty r terms rule premises c

@@ -17,74 +17,73 @@ last-form f rule known e none =
     let behind : f < 6 → ⊥ = none_from 0 6 f none (omega arith) in omega (arith, form_small rule known, e, behind)
 
 pub shaped-requires : goal.shaped-requires
-shaped-requires c = let given = c.requires in
+shaped-requires c =
     let line = c.requires.line_in_tables in
-    let whole = (given.table_value, (line.known, shaped_given line)) in
-    record { table_value = whole.0; rule = whole.1.0; contexts_in_table = whole.1.1 }
+    record { table_value = c.requires.table_value; rule = line.known; contexts_in_table = shaped_given line }
 
 pub wellformed_instance-requires : goal.wellformed_instance-requires
-wellformed_instance-requires c = let line = c.requires.line_in_tables in
+wellformed_instance-requires c =
+    let line = c.requires.line_in_tables in
     let range = (range_0 _ line.known).0 (sym c.conclusion_form-form.ensures ∙ c.in-0.is) in
-    let whole = (line, (c.shaped.ensures.0 c.if-shaped.true, range)) in
-    record { line_in_tables = whole.0; shaped = whole.1.0; le_rule = whole.1.1 }
+    record { line_in_tables = line; shaped = c.shaped.ensures.0 c.if-shaped.true; le_rule = range }
 
 pub typing_instance-requires : goal.typing_instance-requires
-typing_instance-requires c = let line = c.requires.line_in_tables in
+typing_instance-requires c =
+    let line = c.requires.line_in_tables in
     let range = (range_1 _ line.known).0 (sym c.conclusion_form-form.ensures ∙ c.in-1.is) in
-    let whole = (line, (c.shaped.ensures.0 c.if-shaped.true, range)) in
-    record { line_in_tables = whole.0; shaped = whole.1.0; le_rule = whole.1.1 }
+    record { line_in_tables = line; shaped = c.shaped.ensures.0 c.if-shaped.true; le_rule = range }
 
 pub equality_instance-requires : goal.equality_instance-requires
-equality_instance-requires c = let line = c.requires.line_in_tables in
+equality_instance-requires c =
+    let line = c.requires.line_in_tables in
     let ranges = (range_2 _ line.known).0 (sym c.conclusion_form-form.ensures ∙ c.in-2.is) in
     let range = ⊎_elim (λ h. h) (λ h. absurd (omega (arith, h, c.requires.rule_bound))) ranges in
-    let whole = (line, (c.shaped.ensures.0 c.if-shaped.true, range)) in
-    record { line_in_tables = whole.0; shaped = whole.1.0; le_rule = whole.1.1 }
+    record { line_in_tables = line; shaped = c.shaped.ensures.0 c.if-shaped.true; le_rule = range }
 
 pub subtyping_instance-requires : goal.subtyping_instance-requires
-subtyping_instance-requires c = let line = c.requires.line_in_tables in
+subtyping_instance-requires c =
+    let line = c.requires.line_in_tables in
     let range = (range_3 _ line.known).0 (sym c.conclusion_form-form.ensures ∙ c.in-3.is) in
-    let whole = (line, (c.shaped.ensures.0 c.if-shaped.true, range)) in
-    record { line_in_tables = whole.0; shaped = whole.1.0; le_rule = whole.1.1 }
+    record { line_in_tables = line; shaped = c.shaped.ensures.0 c.if-shaped.true; le_rule = range }
 
 pub normal_instance-requires : goal.normal_instance-requires
 normal_instance-requires c =
     let line = c.requires.line_in_tables in
     let range = (range_4 _ line.known).0 (sym c.conclusion_form-form.ensures ∙ c.in-4.is) in
-    record { subjects_in_table = given_empty (line, (c.shaped.ensures.0 c.if-shaped.true, range)); le_rule = range }
+    record { subjects_in_table = given_empty line (c.shaped.ensures.0 c.if-shaped.true); le_rule = range }
 
 pub neutral_instance-requires : goal.neutral_instance-requires
 neutral_instance-requires c =
     let line = c.requires.line_in_tables in
     let range = (range_5 _ line.known).0 (sym c.conclusion_form-form.ensures ∙ c.in-5.is) in
-    record { subjects_in_table = given_empty (line, (c.shaped.ensures.0 c.if-shaped.true, range)); le_rule = range }
+    record { subjects_in_table = given_empty line (c.shaped.ensures.0 c.if-shaped.true); le_rule = range }
 
 pub step_instance-requires : goal.step_instance-requires
 step_instance-requires c =
     let line = c.requires.line_in_tables in
     let form = last-form _ _ line.known c.conclusion_form-form.ensures c.in_default.in_default-own.rest in
     let range = (range_6 _ line.known).0 form in
-    record { subjects_in_table = given_empty (line, (c.shaped.ensures.0 c.if-shaped.true, range)); le_rule = range }
+    record { subjects_in_table = given_empty line (c.shaped.ensures.0 c.if-shaped.true); le_rule = range }
 
 pub returns-in-4 : goal.returns-in-4
 returns-in-4 c =
     let line = c.requires.line_in_tables in
     let form = sym c.conclusion_form-form.ensures ∙ c.in-4.is in
-    by_group (line, (c.shaped.ensures.0 c.if-shaped.true, form)) (omega (arith, form))
+    by_group line (c.shaped.ensures.0 c.if-shaped.true) (omega (arith, form))
     c.normal_instance.ensures
 
 pub returns-in-5 : goal.returns-in-5
 returns-in-5 c =
     let line = c.requires.line_in_tables in
     let form = sym c.conclusion_form-form.ensures ∙ c.in-5.is in
-    by_group (line, (c.shaped.ensures.0 c.if-shaped.true, form)) (omega (arith, form))
+    by_group line (c.shaped.ensures.0 c.if-shaped.true) (omega (arith, form))
     c.neutral_instance.ensures
 
 pub returns-in_default : goal.returns-in_default
 returns-in_default c =
     let line = c.requires.line_in_tables in
     let form = last-form _ _ line.known c.conclusion_form-form.ensures c.in_default.in_default-own.rest in
-    by_group (line, (c.shaped.ensures.0 c.if-shaped.true, form)) (omega (arith, form))
+    by_group line (c.shaped.ensures.0 c.if-shaped.true) (omega (arith, form))
     c.step_instance.ensures
 
 pub returns-else-shaped : goal.returns-else-shaped

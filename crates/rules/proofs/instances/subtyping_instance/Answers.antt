@@ -11,77 +11,77 @@ use Rattle.rules.proofs.instances.subtyping_instance.Goals as goal
 
 pub l_trans-requires : goal.l_trans-requires
 unfolding used_premises premise_count
-l_trans-requires c = rows_known (given_arm c.requires c.in-35.is)
+l_trans-requires c = rows_known (given_arm c.requires.line_in_tables c.requires.shaped c.in-35.is)
 
 pub l_eq-requires : goal.l_eq-requires
 unfolding used_premises premise_count
-l_eq-requires c = rows_known (given_arm c.requires c.in-36.is)
+l_eq-requires c = rows_known (given_arm c.requires.line_in_tables c.requires.shaped c.in-36.is)
 
 pub l_univ-requires : goal.l_univ-requires
 unfolding used_premises premise_count rule_subjects
-l_univ-requires c = rows_known (given_arm c.requires c.in-37.is)
+l_univ-requires c = rows_known (given_arm c.requires.line_in_tables c.requires.shaped c.in-37.is)
 
 pub l_pi-requires : goal.l_pi-requires
 unfolding used_premises premise_count
-l_pi-requires c = given_arm c.requires c.in-38.is
+l_pi-requires c = given_arm c.requires.line_in_tables c.requires.shaped c.in-38.is
 
 pub l_sig-requires : goal.l_sig-requires
 unfolding used_premises premise_count
-l_sig-requires c = given_arm c.requires c.in-39.is
+l_sig-requires c = given_arm c.requires.line_in_tables c.requires.shaped c.in-39.is
 
 pub l_piproj1-requires : goal.l_piproj1-requires
 unfolding used_premises premise_count
-l_piproj1-requires c = rows_known (given_arm c.requires c.in-40.is)
+l_piproj1-requires c = rows_known (given_arm c.requires.line_in_tables c.requires.shaped c.in-40.is)
 
 pub l_piproj2-requires : goal.l_piproj2-requires
 unfolding used_premises premise_count
-l_piproj2-requires c = rows_known (given_arm c.requires c.in-41.is)
+l_piproj2-requires c = rows_known (given_arm c.requires.line_in_tables c.requires.shaped c.in-41.is)
 
 pub l_sigproj1-requires : goal.l_sigproj1-requires
 unfolding used_premises premise_count
-l_sigproj1-requires c = rows_known (given_arm c.requires c.in-42.is)
+l_sigproj1-requires c = rows_known (given_arm c.requires.line_in_tables c.requires.shaped c.in-42.is)
 
 pub l_sigproj2-requires : goal.l_sigproj2-requires
 unfolding used_premises premise_count
-l_sigproj2-requires c = rows_known (given_arm c.requires c.in-43.is)
+l_sigproj2-requires c = rows_known (given_arm c.requires.line_in_tables c.requires.shaped c.in-43.is)
 
 pub returns-in-35 : goal.returns-in-35
 unfolding used_premises premise_count
-returns-in-35 c = by_arm c.requires c.in-35.is (c.l_trans.ensures _ _)
+returns-in-35 c = by_arm c.requires.line_in_tables c.requires.shaped c.in-35.is (c.l_trans.ensures _ _)
 
 pub returns-in-36 : goal.returns-in-36
 unfolding used_premises premise_count
-returns-in-36 c = by_arm c.requires c.in-36.is (c.l_eq.ensures _ _)
+returns-in-36 c = by_arm c.requires.line_in_tables c.requires.shaped c.in-36.is (c.l_eq.ensures _ _)
 
 pub returns-in-37 : goal.returns-in-37
 unfolding used_premises premise_count
-returns-in-37 c = by_arm c.requires c.in-37.is (c.l_univ.ensures _ _ _)
+returns-in-37 c = by_arm c.requires.line_in_tables c.requires.shaped c.in-37.is (c.l_univ.ensures _ _ _)
 
 pub returns-in-38 : goal.returns-in-38
 unfolding used_premises premise_count
-returns-in-38 c = by_arm c.requires c.in-38.is c.l_pi.ensures
+returns-in-38 c = by_arm c.requires.line_in_tables c.requires.shaped c.in-38.is c.l_pi.ensures
 
 pub returns-in-39 : goal.returns-in-39
 unfolding used_premises premise_count
-returns-in-39 c = by_arm c.requires c.in-39.is c.l_sig.ensures
+returns-in-39 c = by_arm c.requires.line_in_tables c.requires.shaped c.in-39.is c.l_sig.ensures
 
 pub returns-in-40 : goal.returns-in-40
 unfolding used_premises premise_count
-returns-in-40 c = by_arm c.requires c.in-40.is (c.l_piproj1.ensures _ _)
+returns-in-40 c = by_arm c.requires.line_in_tables c.requires.shaped c.in-40.is (c.l_piproj1.ensures _ _)
 
 pub returns-in-41 : goal.returns-in-41
 unfolding used_premises premise_count
-returns-in-41 c = by_arm c.requires c.in-41.is (c.l_piproj2.ensures _ _)
+returns-in-41 c = by_arm c.requires.line_in_tables c.requires.shaped c.in-41.is (c.l_piproj2.ensures _ _)
 
 pub returns-in-42 : goal.returns-in-42
 unfolding used_premises premise_count
-returns-in-42 c = by_arm c.requires c.in-42.is (c.l_sigproj1.ensures _ _)
+returns-in-42 c = by_arm c.requires.line_in_tables c.requires.shaped c.in-42.is (c.l_sigproj1.ensures _ _)
 
 pub returns-in-43 : goal.returns-in-43
 unfolding used_premises premise_count
-returns-in-43 c = by_arm c.requires c.in-43.is (c.l_sigproj2.ensures _ _)
+returns-in-43 c = by_arm c.requires.line_in_tables c.requires.shaped c.in-43.is (c.l_sigproj2.ensures _ _)
 
 pub returns-in_default : goal.returns-in_default
 returns-in_default c =
-    let line = c.requires in
-    absurd (none_from 35 9 _ c.in_default.in_default-own.rest line.le_rule.0 (omega (arith, line.le_rule.1)))
+    let range = c.requires.le_rule in
+    absurd (none_from 35 9 _ c.in_default.in_default-own.rest range.0 (omega (arith, range.1)))

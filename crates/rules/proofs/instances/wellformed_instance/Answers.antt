@@ -11,24 +11,23 @@ use Rattle.rules.proofs.instances.wellformed_instance.Goals as goal
 
 pub wf_nil-requires : goal.wf_nil-requires
 unfolding used_premises premise_count
-wf_nil-requires c = given_arm c.requires c.in-1.is
+wf_nil-requires c = given_arm c.requires.line_in_tables c.requires.shaped c.in-1.is
 
 pub wf_cons-requires : goal.wf_cons-requires
 unfolding used_premises premise_count rule_subjects
 wf_cons-requires c =
-    let line = c.requires in
-    let rows = given_arm line c.in-2.is in
+    let rows = given_arm c.requires.line_in_tables c.requires.shaped c.in-2.is in
     rows_of rows (rows.given.within.0, tt) rows.below
 
 pub returns-in-1 : goal.returns-in-1
 unfolding used_premises premise_count
-returns-in-1 c = by_arm c.requires c.in-1.is c.wf_nil.ensures
+returns-in-1 c = by_arm c.requires.line_in_tables c.requires.shaped c.in-1.is c.wf_nil.ensures
 
 pub returns-in-2 : goal.returns-in-2
 unfolding used_premises premise_count
-returns-in-2 c = by_arm c.requires c.in-2.is (c.wf_cons.ensures _)
+returns-in-2 c = by_arm c.requires.line_in_tables c.requires.shaped c.in-2.is (c.wf_cons.ensures _)
 
 pub returns-in_default : goal.returns-in_default
 returns-in_default c =
-    let line = c.requires in
-    absurd (none_from 1 2 _ c.in_default.in_default-own.rest line.le_rule.0 (omega (arith, line.le_rule)))
+    let range = c.requires.le_rule in
+    absurd (none_from 1 2 _ c.in_default.in_default-own.rest range.0 (omega (arith, range)))

@@ -14,54 +14,54 @@ use Rattle.rules.proofs.normalisation.neutral_instance.Goals as goal
 
 pub number-requires : goal.number-requires
 unfolding used_premises premise_count rule_subjects
-number-requires c = arm_rows c.requires c.in-54.is
+number-requires c = arm_rows c.requires.subjects_in_table c.in-54.is
 
 pub is_node-requires : goal.is_node-requires
 unfolding used_premises premise_count rule_subjects
-is_node-requires c = arm_rows c.requires c.in-54.is
+is_node-requires c = arm_rows c.requires.subjects_in_table c.in-54.is
 
 pub is_node-requires-in-55 : goal.is_node-requires-in-55
 unfolding used_premises premise_count rule_subjects
-is_node-requires-in-55 c = arm_rows c.requires c.in-55.is
+is_node-requires-in-55 c = arm_rows c.requires.subjects_in_table c.in-55.is
 
 pub is_node-requires-in-56 : goal.is_node-requires-in-56
 unfolding used_premises premise_count rule_subjects
-is_node-requires-in-56 c = arm_rows c.requires c.in-56.is
+is_node-requires-in-56 c = arm_rows c.requires.subjects_in_table c.in-56.is
 
 pub is_node-requires-in-57 : goal.is_node-requires-in-57
 unfolding used_premises premise_count rule_subjects
-is_node-requires-in-57 c = arm_rows c.requires c.in-57.is
+is_node-requires-in-57 c = arm_rows c.requires.subjects_in_table c.in-57.is
 
 pub is_node-requires-in-58 : goal.is_node-requires-in-58
 unfolding used_premises premise_count rule_subjects
-is_node-requires-in-58 c = arm_rows c.requires c.in-58.is
+is_node-requires-in-58 c = arm_rows c.requires.subjects_in_table c.in-58.is
 
 pub returns-in-54 : goal.returns-in-54
 unfolding used_premises premise_count FollowsIn
 returns-in-54 c =
     let named = ap var c.number.ensures.value in
-    by_law c.requires c.in-54.is (λ contexts. rule_54)
+    by_law c.requires.subjects_in_table c.in-54.is (λ contexts. rule_54)
     (decides_via (λ e. e ∙ named, λ e. e ∙ sym named) c.is_node.ensures)
 
 pub returns-in-55 : goal.returns-in-55
 unfolding used_premises premise_count FollowsIn
 returns-in-55 c =
-    by_law c.requires c.in-55.is (λ contexts. rule_55) c.is_node-in-55.ensures
+    by_law c.requires.subjects_in_table c.in-55.is (λ contexts. rule_55) c.is_node-in-55.ensures
 
 pub returns-in-56 : goal.returns-in-56
 unfolding used_premises premise_count FollowsIn
 returns-in-56 c =
-    by_law c.requires c.in-56.is (λ contexts. rule_56) c.is_node-in-56.ensures
+    by_law c.requires.subjects_in_table c.in-56.is (λ contexts. rule_56) c.is_node-in-56.ensures
 
 pub returns-in-57 : goal.returns-in-57
 unfolding used_premises premise_count FollowsIn
 returns-in-57 c =
-    by_law c.requires c.in-57.is (λ contexts. rule_57) c.is_node-in-57.ensures
+    by_law c.requires.subjects_in_table c.in-57.is (λ contexts. rule_57) c.is_node-in-57.ensures
 
 pub returns-in-58 : goal.returns-in-58
 unfolding used_premises premise_count FollowsIn
 returns-in-58 c =
-    by_law c.requires c.in-58.is (λ contexts. rule_58) c.is_node-in-58.ensures
+    by_law c.requires.subjects_in_table c.in-58.is (λ contexts. rule_58) c.is_node-in-58.ensures
 
 pub returns-in_default : goal.returns-in_default
 returns-in_default c =

@@ -49,47 +49,47 @@ child-d-requires c =
 
 pub n_appabs-requires : goal.n_appabs-requires
 unfolding used_premises premise_count rule_subjects
-n_appabs-requires c = record { rows = arm_rows c.requires c.in-59.is }
+n_appabs-requires c = record { rows = arm_rows c.requires.subjects_in_table c.in-59.is }
 
 pub are_nodes-requires : goal.are_nodes-requires
 unfolding used_premises premise_count rule_subjects
 are_nodes-requires c =
-    let rows = arm_rows c.requires c.in-60.is in record { rows_in_table = other_rows (λ n h. (omega (arith, h), (omega (arith, h), (omega (arith, h), tt)))) rows; rows_in_table_2 = other_rows (λ n h. (omega (arith, h), (omega (arith, h), (omega (arith, h), tt)))) rows }
+    let rows = arm_rows c.requires.subjects_in_table c.in-60.is in record { rows_in_table = other_rows (λ n h. (omega (arith, h), (omega (arith, h), (omega (arith, h), tt)))) rows; rows_in_table_2 = other_rows (λ n h. (omega (arith, h), (omega (arith, h), (omega (arith, h), tt)))) rows }
 
 pub are_nodes-requires-in-61 : goal.are_nodes-requires-in-61
 unfolding used_premises premise_count rule_subjects
 are_nodes-requires-in-61 c =
-    let rows = arm_rows c.requires c.in-61.is in
+    let rows = arm_rows c.requires.subjects_in_table c.in-61.is in
     let d = c.child-d.ensures.below in record { rows_in_table = other_rows (λ n h. (omega (arith, h), (omega (arith, h, d), tt))) rows; rows_in_table_2 = other_rows (λ n h. (omega (arith, h, d), (omega (arith, h), (omega (arith, h), tt)))) rows }
 
 pub are_nodes-requires-in-62 : goal.are_nodes-requires-in-62
 unfolding used_premises premise_count rule_subjects
 are_nodes-requires-in-62 c =
-    let rows = arm_rows c.requires c.in-62.is in
+    let rows = arm_rows c.requires.subjects_in_table c.in-62.is in
     let d = c.child-d.ensures.below in record { rows_in_table = other_rows (λ n h. (omega (arith, h), (omega (arith, h, d), tt))) rows; rows_in_table_2 = other_rows (λ n h. (omega (arith, h, d), (omega (arith, h), (omega (arith, h), tt)))) rows }
 
 pub are_nodes-requires-in-63 : goal.are_nodes-requires-in-63
 unfolding used_premises premise_count rule_subjects
 are_nodes-requires-in-63 c =
-    let rows = arm_rows c.requires c.in-63.is in record { rows_in_table = other_rows (λ n h. (omega (arith, h), (omega (arith, h), tt))) rows; rows_in_table_2 = other_rows (λ n h. (omega (arith, h), (omega (arith, h), tt))) rows }
+    let rows = arm_rows c.requires.subjects_in_table c.in-63.is in record { rows_in_table = other_rows (λ n h. (omega (arith, h), (omega (arith, h), tt))) rows; rows_in_table_2 = other_rows (λ n h. (omega (arith, h), (omega (arith, h), tt))) rows }
 
 pub are_nodes-requires-in-64 : goal.are_nodes-requires-in-64
 unfolding used_premises premise_count rule_subjects
 are_nodes-requires-in-64 c =
-    let rows = arm_rows c.requires c.in-64.is in record { rows_in_table = other_rows (λ n h. (omega (arith, h), (omega (arith, h), tt))) rows; rows_in_table_2 = other_rows (λ n h. (omega (arith, h), (omega (arith, h), tt))) rows }
+    let rows = arm_rows c.requires.subjects_in_table c.in-64.is in record { rows_in_table = other_rows (λ n h. (omega (arith, h), (omega (arith, h), tt))) rows; rows_in_table_2 = other_rows (λ n h. (omega (arith, h), (omega (arith, h), tt))) rows }
 
 pub n_indzero-requires : goal.n_indzero-requires
 unfolding used_premises premise_count rule_subjects
-n_indzero-requires c = record { rows = arm_rows c.requires c.in-65.is }
+n_indzero-requires c = record { rows = arm_rows c.requires.subjects_in_table c.in-65.is }
 
 pub n_indsuc-requires : goal.n_indsuc-requires
 unfolding used_premises premise_count rule_subjects
-n_indsuc-requires c = record { rows = arm_rows c.requires c.in-66.is }
+n_indsuc-requires c = record { rows = arm_rows c.requires.subjects_in_table c.in-66.is }
 
 pub are_nodes-requires-in-67 : goal.are_nodes-requires-in-67
 unfolding used_premises premise_count rule_subjects
 are_nodes-requires-in-67 c =
-    let rows = arm_rows c.requires c.in-67.is in record { rows_in_table = other_rows
+    let rows = arm_rows c.requires.subjects_in_table c.in-67.is in record { rows_in_table = other_rows
           (λ n h.
           (omega (arith, h), (omega (arith, h), (omega (arith, h), (omega (arith, h), (omega (arith, h), tt))))))
           rows; rows_in_table_2 = other_rows
@@ -99,50 +99,50 @@ are_nodes-requires-in-67 c =
 
 pub returns-in-59 : goal.returns-in-59
 unfolding used_premises premise_count FollowsIn
-returns-in-59 c = by_check c.requires c.in-59.is c.n_appabs.ensures
+returns-in-59 c = by_check c.requires.subjects_in_table c.in-59.is c.n_appabs.ensures
 
 pub returns-in-60 : goal.returns-in-60
 unfolding used_premises premise_count FollowsIn
 returns-in-60 c =
-    by_law c.requires c.in-60.is
+    by_law c.requires.subjects_in_table c.in-60.is
     (λ contexts. rule_60) c.are_nodes.ensures
 
 pub returns-in-61 : goal.returns-in-61
 unfolding used_premises premise_count FollowsIn
 returns-in-61 c =
-    by_law c.requires c.in-61.is
+    by_law c.requires.subjects_in_table c.in-61.is
     (λ contexts. first-agrees c.child-d.ensures.value) c.are_nodes-in-61.ensures
 
 pub returns-in-62 : goal.returns-in-62
 unfolding used_premises premise_count FollowsIn
 returns-in-62 c =
-    by_law c.requires c.in-62.is
+    by_law c.requires.subjects_in_table c.in-62.is
     (λ contexts. second-agrees c.child-d.ensures.value) c.are_nodes-in-62.ensures
 
 pub returns-in-63 : goal.returns-in-63
 unfolding used_premises premise_count FollowsIn
 returns-in-63 c =
-    by_law c.requires c.in-63.is
+    by_law c.requires.subjects_in_table c.in-63.is
     (λ contexts. rule_63) c.are_nodes-in-63.ensures
 
 pub returns-in-64 : goal.returns-in-64
 unfolding used_premises premise_count FollowsIn
 returns-in-64 c =
-    by_law c.requires c.in-64.is
+    by_law c.requires.subjects_in_table c.in-64.is
     (λ contexts. rule_64) c.are_nodes-in-64.ensures
 
 pub returns-in-65 : goal.returns-in-65
 unfolding used_premises premise_count FollowsIn
-returns-in-65 c = by_check c.requires c.in-65.is c.n_indzero.ensures
+returns-in-65 c = by_check c.requires.subjects_in_table c.in-65.is c.n_indzero.ensures
 
 pub returns-in-66 : goal.returns-in-66
 unfolding used_premises premise_count FollowsIn
-returns-in-66 c = by_check c.requires c.in-66.is c.n_indsuc.ensures
+returns-in-66 c = by_check c.requires.subjects_in_table c.in-66.is c.n_indsuc.ensures
 
 pub returns-in-67 : goal.returns-in-67
 unfolding used_premises premise_count FollowsIn
 returns-in-67 c =
-    by_law c.requires c.in-67.is
+    by_law c.requires.subjects_in_table c.in-67.is
     (λ contexts. rule_67) c.are_nodes-in-67.ensures
 
 pub returns-in_default : goal.returns-in_default
