@@ -196,7 +196,7 @@ module _ {terms contexts : List ℕ} {rule : ℕ} {premises : List LineJudgment}
       subst (λ m. AllBelow g.given.term_count (rule_subjects m (used_premises m premises) c)) e
       (both_below g.given.term_count (used_subjects (form_of rule) c) (subjects_from rule 0 ps)
       (subjects_below g.given.term_count g.given.count (form_of rule) c g.conclusion g.concludes)
-      (subjects_from_lem terms contexts rule (counted_from rule (context terms contexts c.context)) g.given.term_count g.given.count 0 ps g.used given.1.0))
+      (subjects_from_lem terms contexts rule (counted_from rule (context terms contexts c.context)) g.given.term_count g.given.count 0 ps g.used shaped))
 
   pub given_arm : RuleInTables terms contexts n (used_premises n premises) c
   given_arm =

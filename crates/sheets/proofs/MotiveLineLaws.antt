@@ -35,6 +35,34 @@ use Rattle.sheets.proofs.BufferLaws.{part_to_end}
 use Rattle.sheets.proofs.CitingLaws.{lines_part, part_lines}
 use Rattle.sheets.proofs.LineAnswers.{judgments_in_tables}
 
+-- the search of the last `left` of so many places
+pub record LookingLeft (test : ℕ → Bool) (count left : ℕ) : Type 0 where
+  pub few : left ≤ count
+  pub ahead : Looking test (λ i. i) count count (first_at test (λ i. i) count count 0) (count - left)
+
+module _ {test : ℕ → Bool} {count : ℕ} where
+  pub left_start : LookingLeft test count count
+  left_start =
+      let first : 0 ≡ count - count = omega arith in
+      record {
+        few = omega arith;
+        ahead =
+            subst (Looking test (λ i. i) count count (first_at test (λ i. i) count count 0)) first
+            (looking_start count (omega arith) refl);
+      }
+
+  pub left_next : {left : ℕ} → LookingLeft test count left → 0 < left → test (count - left) ≡ false
+      → LookingLeft test count (left - 1)
+  left_next {left} at h passed =
+      let few = at.few in
+      let next : count - left + 1 ≡ count - (left - 1) = omega arith in
+      record {
+        few = omega arith;
+        ahead =
+            subst (Looking test (λ i. i) count count (first_at test (λ i. i) count count 0)) next
+            (looking_next at.ahead (omega arith) passed);
+      }
+
 -- an array that holds what it should at its first n places, and one element more
 array_next : (P : ℕ → ℕ → Type 0) (a : List ℕ) (n x : ℕ) → n < length a → ((k : ℕ) → k < n → P k (get_or a k 0))
     → P n x → (k : ℕ) → k < n + 1 → P k (get_or (set a n x) k 0)

@@ -15,10 +15,14 @@ pub overflow_sub-rule : goal.overflow_sub-rule
 overflow_sub-rule c = omega (arith, c.requires.lt_rule)
 
 pub is_instance-requires : goal.is_instance-requires
-is_instance-requires c = let given = c.requires in
-    let cited = cited_line given.line_in_tables given.lt_rule in
-    let whole = (given.table_value, (cited.printed, omega (arith, cited.printed.known))) in
-    record { table_value = whole.0; line_in_tables = whole.1.0; rule_bound = whole.1.1 }
+is_instance-requires c =
+    let given = c.requires in
+    let printed = (cited_line given.line_in_tables given.lt_rule).printed in
+    record {
+      table_value = given.table_value;
+      line_in_tables = printed;
+      rule_bound = omega (arith, printed.known);
+    }
 
 pub returns : goal.returns
 returns c =

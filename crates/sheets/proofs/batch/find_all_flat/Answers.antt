@@ -10,13 +10,11 @@ search_each_flat-requires c =
     (fits.0, omega (arith, fits.1), fits.2)
 
 pub returns : goal.returns
-returns c = let args = c.args in
+returns c =
+    let args = c.args in
     let said = c.open_batch-o.ensures in
-    let whole = (
-      c.batch_of.ensures ∙ flat_answered _ _ args.numbers.now args.answers.now _ said.answer,
-      (
-        said.left,
-        c.search_each_flat.ensures ∙ flat_put _ _ args.numbers.now args.answers.now _ said.answer,
-      ),
-    ) in
-    record { answer = whole.0; left = whole.1.0; put = whole.1.1 }
+    record {
+      answer = c.batch_of.ensures ∙ flat_answered _ _ args.numbers.now args.answers.now _ said.answer;
+      left = said.left;
+      put = c.search_each_flat.ensures ∙ flat_put _ _ args.numbers.now args.answers.now _ said.answer;
+    }

@@ -11,16 +11,16 @@ convert_admitted-requires c =
 
 pub returns-in-Refused : goal.returns-in-Refused
 unfolding convert_after output_from
-returns-in-Refused c = let admit = c.admit.ensures in
+returns-in-Refused c =
+    let admit = c.admit.ensures in
     let h = concludes _ _ _ _ admit.answer _ _ (ap (convert_after _ _) (sym c.in-Refused.is)) refl in
-    let whole = (h.0, (admit.left, (h.1, h.2))) in
-    record { answer = whole.0; left = whole.1.0; written = whole.1.1.0; kept = whole.1.1.1 }
+    record { answer = h.0; left = admit.left; written = h.1; kept = h.2 }
 
 pub returns-in-Accepted : goal.returns-in-Accepted
 unfolding convert_after
-returns-in-Accepted c = let admit = c.admit.ensures in
+returns-in-Accepted c =
+    let admit = c.admit.ensures in
     let done = c.convert_admitted.ensures in
     let answer = done.answer ∙ ap (convert_after _ _) (sym c.in-Accepted.is) in
     let h = concludes _ _ _ _ admit.answer _ _ answer done.left in
-    let whole = (h.0, (admit.left, (h.1, h.2))) in
-    record { answer = whole.0; left = whole.1.0; written = whole.1.1.0; kept = whole.1.1.1 }
+    record { answer = h.0; left = admit.left; written = h.1; kept = h.2 }

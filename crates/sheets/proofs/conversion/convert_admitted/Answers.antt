@@ -34,5 +34,5 @@ returns c =
     let place = c.find_motives-place.ensures in
     let all = c.if-place-lines.false in record { answer = sym
           (answer_written _ _ _ _ _ (omega (arith, c.edition_of.ensures, c.if-edition_of-ge-NEW_EDITION.false))
-          (omega (arith, place.place, all)) c.if-out-length.false); left = writer_leaves _ _ _ _ c.requires c.find_motives-place.new.1.1.1.1.0
+          (omega (arith, place.place, all)) c.if-out-length.false); left = writer_leaves _ _ _ _ c.requires c.find_motives-place.new.first
           (λ n h. place.found n (omega (arith, h, all))) _ _ c.write_converted.ensures }

@@ -5,6 +5,7 @@ use native.Mathlib.Omega.{arith}
 use borrow.Author.Rules.{rules}
 use Rattle.sheets.proofs.ConvertedWordLaws.{lines_start_lem, line_stays, line_changes, lines_end_lem}
 use Rattle.sheets.proofs.conversion.write_converted.Goals as goal
+use Rattle.sheets.proofs.conversion.write_converted.Goals.{then-premise-n, else-premise-n}
 
 pub loop-n-init : goal.loop-n-init
 loop-n-init c =
@@ -15,10 +16,11 @@ pub loop-n-preserved : goal.loop-n-preserved
 loop-n-preserved c =
     let inv = c.loop-n.invariant in
     let within = c.loop-n-test.true in
-    ⊎_elim
-    (λ p. line_changes _ _ _ _ _ inv within p.0.taken _ refl (p.5 ∙ p.2.ensures))
-    (λ p. line_stays _ _ _ _ _ inv within p.0.left p.1)
-    c.if-premise-n.branch
+    elim c.if-premise-n.branch [
+      then-premise-n w ↦
+        line_changes _ _ _ _ _ inv within w.if-premise-n.true _ refl (w.out-is ∙ w.add_premise.ensures)
+    | else-premise-n w ↦ line_stays _ _ _ _ _ inv within w.if-premise-n.false w.out-is
+    ]
 
 pub returns : goal.returns
 returns c =

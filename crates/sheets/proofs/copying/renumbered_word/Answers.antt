@@ -5,7 +5,8 @@ use borrow.Author.Rules.{rules}
 use Rattle.sheets.proofs.copying.renumbered_word.Goals as goal
 
 pub returns-then-j-lt6 : goal.returns-then-j-lt6
-returns-then-j-lt6 c = let read = c.word_at-w.ensures in record { value = line_field _ _ _ _ _ read.value c.if-j-lt6.true; range = read.range }
+returns-then-j-lt6 c =
+    let read = c.word_at-w.ensures in record { value = line_field _ _ _ _ _ read.value c.if-j-lt6.true; range = read.range }
 
 pub bounds-below-w : goal.bounds-below-w
 bounds-below-w c =

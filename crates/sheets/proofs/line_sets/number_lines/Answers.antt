@@ -30,7 +30,7 @@ next_count-count-requires c = (c.requires.rises.0, c.loop-k.invariant.counted)
 pub loop-k-preserved : goal.loop-k-preserved
 loop-k-preserved c =
     let loop = c.loop-k in
-    numbered_next _ c.requires.rises.0 _ loop.below loop.auto _ _ loop.invariant _ c.requires.rises.1
+    numbered_next _ c.requires.rises.0 _ loop.below loop.kept _ _ loop.invariant _ c.requires.rises.1
     c.loop-k-test.true c.next_count-count.ensures
 
 pub returns : goal.returns

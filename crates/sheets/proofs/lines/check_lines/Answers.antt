@@ -37,7 +37,8 @@ line_fits-requires c =
     (c.loop-n.invariant c.requires).made
 
 pub line_follows-requires : goal.line_follows-requires
-line_follows-requires c = let whole = asked _ _ _ _ c.requires (c.loop-n.invariant c.requires) c.loop-n-test.true _
+line_follows-requires c =
+    let whole = asked _ _ _ _ c.requires (c.loop-n.invariant c.requires) c.loop-n-test.true _
     c.read_line-line.ensures _ c.line_fits.ensures c.if-line_fits.true in
     record { table_value = whole.0; edition_value = whole.1.0; good_before = whole.1.1 }
 

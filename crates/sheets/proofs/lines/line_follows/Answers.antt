@@ -70,26 +70,34 @@ told c =
     let terms = c.args.terms in
     let own = c.requires.edition_value in
     let context-rows = part_to_end bytes (10 * terms) in
-    let lines = part_to_end bytes (10 * terms + 4 * start.contexts) in
+    let lines = part_to_end bytes (10 * terms + 4 * c.args.contexts) in
     let p = c.judgment_of-p.ensures ∙ ap judgment_of c.read_line.ensures in
     let q = c.judgment_of-q.ensures ∙ ap judgment_of c.read_line-2.ensures in
     let r = c.judgment_of-r.ensures ∙ ap judgment_of c.read_line-3.ensures in
     let s = c.judgment_of-s.ensures ∙ ap judgment_of c.read_line-4.ensures in (
-      line_in_tables _ _ _ _ start.line rows.0 rows.1 rows.2 own _ _ context-rows lines _ _ _ _ _
+      line_in_tables _ _ _ _ c.args.line rows.0 rows.1 rows.2 own _ _ context-rows lines _ _ _ _ _
           p q r s c.judgment_of-c.ensures,
-      line_decided _ _ _ _ start.line rows.0 rows.1 rows.2 own _ _ context-rows lines _ _ _ _ _
+      line_decided _ _ _ _ c.args.line rows.0 rows.1 rows.2 own _ _ context-rows lines _ _ _ _ _
           p q r s c.judgment_of-c.ensures,
     )
 
 pub is_cited_instance-requires : goal.is_cited_instance-requires
-is_cited_instance-requires c = let behind = c.cites_motive.ensures.0 c.if-cites_motive.true in
-    let whole = (c.requires.table_value, ((told (goal.at.is_cited_instance-requires c).After-judgment_of-c).0, behind)) in
-    record { table_value = whole.0; line_in_tables = whole.1.0; lt_rule = whole.1.1 }
+is_cited_instance-requires c =
+    let behind = c.cites_motive.ensures.0 c.if-cites_motive.true in
+    record {
+      table_value = c.requires.table_value;
+      line_in_tables = (told (goal.at.is_cited_instance-requires c).After-judgment_of-c).0;
+      lt_rule = behind;
+    }
 
 pub is_instance-requires : goal.is_instance-requires
-is_instance-requires c = let low = refuted c.cites_motive.ensures c.if-cites_motive.false in
-    let whole = (c.requires.table_value, ((told (goal.at.is_instance-requires c).After-judgment_of-c).0, omega (arith, low))) in
-    record { table_value = whole.0; line_in_tables = whole.1.0; rule_bound = whole.1.1 }
+is_instance-requires c =
+    let low = refuted c.cites_motive.ensures c.if-cites_motive.false in
+    record {
+      table_value = c.requires.table_value;
+      line_in_tables = (told (goal.at.is_instance-requires c).After-judgment_of-c).0;
+      rule_bound = omega (arith, low);
+    }
 
 pub returns-then-cites_motive : goal.returns-then-cites_motive
 returns-then-cites_motive c = (told (goal.at.returns-then-cites_motive c).After-judgment_of-c).1 _ c.is_cited_instance.ensures

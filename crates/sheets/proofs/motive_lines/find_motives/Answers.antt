@@ -37,7 +37,8 @@ new_premise-premise-requires c =
     record { good = (pre.0, c.loop-n-test.true, read (goal.at.new_premise-premise-requires c).After-read_line-line); motives_given = c.loop-n.invariant.motives }
 
 pub returns-then-asks_motive-premise : goal.returns-then-asks_motive-premise
-returns-then-asks_motive-premise c = let whole = found-without _ _ _ _ c.loop-n.invariant c.loop-n-test.true
+returns-then-asks_motive-premise c =
+    let whole = found-without _ _ _ _ c.loop-n.invariant c.loop-n-test.true
     (asks_is _ _ _ _ (read (goal.at.returns-then-asks_motive-premise c).After-read_line-line) c.asks_motive.ensures) c.new_premise-premise.ensures
     c.if-asks_motive-premise.true in
     record { place = whole.0; found = whole.1 }
@@ -82,5 +83,6 @@ loop-n-preserved c =
     c.motive_given.ensures
 
 pub returns : goal.returns
-returns c = let whole = found_end _ _ _ _ c.loop-n.invariant c.loop-n-test.false in
+returns c =
+    let whole = found_end _ _ _ _ c.loop-n.invariant c.loop-n-test.false in
     record { place = whole.0; found = whole.1 }

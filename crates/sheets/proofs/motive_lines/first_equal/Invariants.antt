@@ -4,6 +4,7 @@ use native.Mathlib.Omega.{arith}
 use lib.Dec.{eqb}
 use lib.ListN.{get_or}
 use borrow.Author.Rules.{rules}
+use Rattle.sheets.proofs.MotiveLineLaws.{LookingLeft}
 use Rattle.sheets.proofs.motive_lines.first_equal.Given as goal
 
 abbrev pub invariant-loop-left : goal.invariant-loop-left

@@ -1,10 +1,10 @@
 use mathlib.Core.Path.{sym, subst}
-use mathlib.Core.Logic.{⊎_elim}
 use Prim.Native.Nat.{◌+◌, ◌-◌}
 use native.Mathlib.Omega.{arith}
 use borrow.Author.Rules.{rules}
 use Rattle.sheets.proofs.FindingLaws.{BestBefore, best_start, best_next, best_passed, best_line, best_none}
 use Rattle.sheets.proofs.searching.search_lines.Goals as goal
+use Rattle.sheets.proofs.searching.search_lines.Goals.{then-has_numbers, else-has_numbers}
 
 pub loop-n-init : goal.loop-n-init
 loop-n-init c = best_start _ _ _ _ _ (omega arith)
@@ -17,13 +17,15 @@ loop-n-preserved c =
     let judgment = c.judgment_of.ensures in
     let has = c.has_numbers.ensures in
     let best = BestBefore c.args.edition c.args.lines.now c.args.wanted c.args.count in
-    ⊎_elim
-    (λ p. subst (λ b. best b (loop.n + 1)) (sym p.2)
-    (best_next _ _ _ c.args.heights.now _ _ _ _ c.requires.heights_value loop.invariant within
-    (cc (line, judgment, has, p.0.taken)) p.1.ensures))
-    (λ p. subst (λ b. best b (loop.n + 1)) (sym p.1)
-    (best_passed _ _ _ _ _ _ loop.invariant within (cc (line, judgment, has, p.0.left))))
-    c.if-has_numbers.branch
+    elim c.if-has_numbers.branch [
+      then-has_numbers w ↦
+        subst (λ b. best b (loop.n + 1)) (sym w.best-is)
+        (best_next _ _ _ c.args.heights.now _ _ _ _ c.requires.heights_value loop.invariant within
+        (cc (line, judgment, has, w.if-has_numbers.true)) w.better-best.ensures)
+    | else-has_numbers w ↦
+        subst (λ b. best b (loop.n + 1)) (sym w.best-is)
+        (best_passed _ _ _ _ _ _ loop.invariant within (cc (line, judgment, has, w.if-has_numbers.false)))
+    ]
 
 pub returns-then-best-count : goal.returns-then-best-count
 returns-then-best-count c = best_line _ _ _ _ _ _ c.loop-n.invariant c.loop-n-test.false c.if-best-count.true

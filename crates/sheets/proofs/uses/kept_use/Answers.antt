@@ -50,17 +50,18 @@ pub bounds-kept-m : goal.bounds-kept-m
 bounds-kept-m c = omega (arith, asking (goal.at.bounds-kept-m c).In-loop-m)
 
 pub overflow_cast-place : goal.overflow_cast-place
-overflow_cast-place c = let a = asking (goal.at.overflow_cast-place c).In-loop-m in omega (arith, a, place_within a)
+overflow_cast-place c =
+    let a = asking (goal.at.overflow_cast-place c).In-loop-m in omega (arith, a, place_within a)
 
 pub read_line-requires : goal.read_line-requires
-read_line-requires c = let a = asking (goal.at.read_line-requires c).In-loop-m in omega (arith, a, place_within a)
+read_line-requires c =
+    let a = asking (goal.at.read_line-requires c).In-loop-m in omega (arith, a, place_within a)
 
 pub highest_listed-above-requires : goal.highest_listed-above-requires
-highest_listed-above-requires c = let a = asking (goal.at.highest_listed-above-requires c).In-loop-m in
+highest_listed-above-requires c =
+    let a = asking (goal.at.highest_listed-above-requires c).In-loop-m in
     let read = c.read_line.ensures in
-    let table = c.rule_table-table.ensures in
-    let whole = (table, (rule_known_lem a _ read, premises_few a _ read)) in
-    record { table_value = whole.0; rule = whole.1.0; p0_bound = whole.1.1 }
+    record { table_value = c.rule_table-table.ensures; rule = rule_known_lem a _ read; p0_bound = premises_few a _ read }
 
 pub higher_use-found-requires : goal.higher_use-found-requires
 higher_use-found-requires c = tt

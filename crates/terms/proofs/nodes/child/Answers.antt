@@ -17,7 +17,8 @@ word-requires-then-j-arity c =
     (row_whole _ _ _ c.requires.0.table c.requires.0.below.0, omega arith)
 
 pub returns-then-j-arity : goal.returns-then-j-arity
-returns-then-j-arity c = let whole = child-found _ _ c.requires.0.table _ c.requires.0.below.0 _ _ _ c.word.ensures.value
+returns-then-j-arity c =
+    let whole = child-found _ _ c.requires.0.table _ c.requires.0.below.0 _ _ _ c.word.ensures.value
     c.arity.ensures.value _ c.requires.1 c.if-j-arity.true c.word-then-j-arity.ensures.value in
     record { value = whole.0; below = whole.1 }
 

@@ -1,7 +1,7 @@
 use mathlib.Core.Path.{◌≡◌, sym, ◌∙◌, ap, subst}
 use mathlib.Core.Bool.{true, false}
 use mathlib.Core.Logic.{⊎_elim}
-use Prim.Native.Nat.{◌-◌}
+use Prim.Native.Nat.{ℕ, ◌-◌}
 use native.Mathlib.Omega.{arith}
 use borrow.Author.Tests.{not-true, not-false}
 use Rattle.terms.specs.Tag.{tag_in}
@@ -14,10 +14,12 @@ use Rattle.terms.proofs.VisitLaws.{Visited, visit_start, visit_place, visit_chil
 use Rattle.terms.proofs.RecognitionLaws.{head_read, given_whole, given_low, known_more, part_scrutinised, part_other}
 use Rattle.terms.proofs.normal.+walk_neutral_walk_normal.Invariants.{NormalPart}
 use Rattle.terms.proofs.normal.+walk_neutral_walk_normal.Goals.{walk_neutral-After-scrutinised-place, walk_neutral-After-word-child, walk_neutral-Else-not-heads_neutral, walk_normal-After-word, walk_normal-Else-heads_neutral}
+use Rattle.terms.proofs.normal.+walk_neutral_walk_normal.Goals.{walk_neutral-then-j-place+else-not-walk_neutral}
+use Rattle.terms.proofs.normal.+walk_neutral_walk_normal.Goals.{walk_neutral-else-j-place+else-not-walk_normal}
 use Rattle.terms.proofs.normal.+walk_neutral_walk_normal.Goals as goal
 
 -- the tag is none of a neutral term
-normal-head : (c : walk_normal-Else-heads_neutral t)
+normal-head : {t : ℕ} (c : walk_normal-Else-heads_neutral t)
     → heads_neutral (tag_in (term c.args.rows.now c.args.t)) ≡ false
 normal-head c =
     head_read c.requires.0 c.word-tag.ensures.value c.heads_neutral.ensures c.if-heads_neutral.false
@@ -61,7 +63,7 @@ walk_normal-word-requires t c =
     (given_whole w.given, omega (arith, visit_place w c.loop-j-test.true))
 
 -- the child that is visited
-normal-child : (c : walk_normal-After-word t) → Visited c.loop-j.invariant.0 c.word.result
+normal-child : {t : ℕ} (c : walk_normal-After-word t) → Visited c.loop-j.invariant.0 c.word.result
 normal-child c = visit_child c.loop-j.invariant.0 c.loop-j-test.true c.word.ensures.value
 
 pub walk_normal-walk_normal-requires : goal.walk_normal-walk_normal-requires
@@ -74,7 +76,7 @@ pub walk_normal-returns-then-not-walk_normal : goal.walk_normal-returns-then-not
 walk_normal-returns-then-not-walk_normal t c =
     let child = normal-child (goal.at.walk_normal-returns-then-not-walk_normal t c).After-word in
     let answer = c.walk_normal.ensures in
-    record { answer = says_no (λ h. refuted answer.answer (not-true _ c.if-not-walk_normal.true-raw) (child.part (normal_parts h))); memory = answer.memory }
+    record { answer = says_no (λ h. refuted answer.answer c.if-not-walk_normal.true (child.part (normal_parts h))); memory = answer.memory }
 
 pub walk_normal-overflow_add-j : goal.walk_normal-overflow_add-j
 walk_normal-overflow_add-j t c =
@@ -88,7 +90,7 @@ pub walk_normal-loop-j-preserved : goal.walk_normal-loop-j-preserved
 walk_normal-loop-j-preserved t c =
     let child = normal-child (goal.at.walk_normal-loop-j-preserved t c).After-word in
     let answer = c.walk_normal.ensures in
-    (child.next (answer.answer.0 (not-false _ c.if-not-walk_normal.false-raw)), answer.memory)
+    (child.next (answer.answer.0 c.if-not-walk_normal.false), answer.memory)
 
 pub walk_normal-bounds-known-t-2 : goal.walk_normal-bounds-known-t-2
 walk_normal-bounds-known-t-2 t c = given_low c.loop-j.invariant.0.given
@@ -100,14 +102,14 @@ walk_normal-returns t c =
     record { answer = says_yes h; memory = known_more _ _ _ c.loop-j.invariant.1 h }
 
 -- the tag is that of a neutral term
-neutral-head : (c : walk_neutral-Else-not-heads_neutral t)
+neutral-head : {t : ℕ} (c : walk_neutral-Else-not-heads_neutral t)
     → heads_neutral (tag_in (term c.args.rows.now c.args.t)) ≡ true
 neutral-head c =
     let tag = c.word-tag.ensures.value in
-    head_read c.requires.0 tag c.heads_neutral.ensures (not-false _ c.if-not-heads_neutral.false-raw)
+    head_read c.requires.0 tag c.heads_neutral.ensures c.if-not-heads_neutral.false
 
 -- the place is that of the part that is scrutinised
-neutral-place : (c : walk_neutral-After-scrutinised-place t)
+neutral-place : {t : ℕ} (c : walk_neutral-After-scrutinised-place t)
     → c.scrutinised-place.result ≡ scrutinised (tag_in (term c.args.rows.now c.args.t))
 neutral-place c =
     let tag = c.word-tag.ensures.value in
@@ -126,7 +128,7 @@ walk_neutral-returns-then-not-heads_neutral t c =
     c.requires.0
     c.word-tag.ensures.value
     c.heads_neutral.ensures
-    (not-true _ c.if-not-heads_neutral.true-raw) in
+    c.if-not-heads_neutral.true in
     record { answer = says_no (not_neutral head); memory = c.requires.1 }
 
 pub walk_neutral-bounds-known-t : goal.walk_neutral-bounds-known-t
@@ -156,7 +158,7 @@ walk_neutral-word-child-requires t c =
     (given_whole w.given, omega (arith, visit_place w c.loop-j-test.true))
 
 -- the child that is visited
-neutral-child : (c : walk_neutral-After-word-child t) → Visited c.loop-j.invariant.0 c.word-child.result
+neutral-child : {t : ℕ} (c : walk_neutral-After-word-child t) → Visited c.loop-j.invariant.0 c.word-child.result
 neutral-child c = visit_child c.loop-j.invariant.0 c.loop-j-test.true c.word-child.ensures.value
 
 pub walk_neutral-walk_neutral-requires : goal.walk_neutral-walk_neutral-requires
@@ -171,7 +173,7 @@ walk_neutral-returns-then-not-walk_neutral t c =
     let answer = c.walk_neutral.ensures in
     let place = neutral-place (goal.at.walk_neutral-returns-then-not-walk_neutral t c).After-scrutinised-place in
     let asked = part_scrutinised _ _ _ (c.if-j-place.true ∙ place) in
-    record { answer = says_no (λ h. refuted answer.answer (not-true _ c.if-not-walk_neutral.true-raw) (asked.0 (child.part (neutral_parts h)))); memory = answer.memory }
+    record { answer = says_no (λ h. refuted answer.answer c.if-not-walk_neutral.true (asked.0 (child.part (neutral_parts h)))); memory = answer.memory }
 
 pub walk_neutral-walk_normal-requires : goal.walk_neutral-walk_normal-requires
 walk_neutral-walk_normal-requires t c =
@@ -185,7 +187,7 @@ walk_neutral-returns-then-not-walk_normal t c =
     let answer = c.walk_normal.ensures in
     let place = neutral-place (goal.at.walk_neutral-returns-then-not-walk_normal t c).After-scrutinised-place in
     let asked = part_other _ _ _ (λ e. c.if-j-place.false (e ∙ sym place)) in
-    record { answer = says_no (λ h. refuted answer.answer (not-true _ c.if-not-walk_normal.true-raw) (asked.0 (child.part (neutral_parts h)))); memory = answer.memory }
+    record { answer = says_no (λ h. refuted answer.answer c.if-not-walk_normal.true (asked.0 (child.part (neutral_parts h)))); memory = answer.memory }
 
 pub walk_neutral-overflow_add-j : goal.walk_neutral-overflow_add-j
 walk_neutral-overflow_add-j t c =
@@ -199,14 +201,20 @@ pub walk_neutral-loop-j-preserved : goal.walk_neutral-loop-j-preserved
 walk_neutral-loop-j-preserved t c =
     let child = neutral-child (goal.at.walk_neutral-loop-j-preserved t c).After-word-child in
     let place = neutral-place (goal.at.walk_neutral-loop-j-preserved t c).After-scrutinised-place in
-    ⊎_elim
-    (λ p.
-    let asked = part_scrutinised _ _ _ (p.0.taken ∙ place) in
-    (child.next (asked.1 (p.2.ensures.0.0 (not-false _ p.3.left))), subst (Known _) (sym p.4) p.2.ensures.1))
-    (λ p.
-    let asked = part_other _ _ _ (λ e. p.0.left (e ∙ sym place)) in
-    (child.next (asked.1 (p.2.ensures.0.0 (not-false _ p.3.left))), subst (Known _) (sym p.4) p.2.ensures.1))
-    c.if-j-place.branch
+    elim c.if-j-place.branch [
+      walk_neutral-then-j-place+else-not-walk_neutral w ↦
+        let asked = part_scrutinised _ _ _ (w.if-j-place.true ∙ place) in
+        let answer = w.walk_neutral.ensures in (
+          child.next (asked.1 (answer.answer.0 w.if-not-walk_neutral.false)),
+          subst (Known _) (sym w.known-is) answer.memory,
+        )
+    | walk_neutral-else-j-place+else-not-walk_normal w ↦
+        let asked = part_other _ _ _ (λ e. w.if-j-place.false (e ∙ sym place)) in
+        let answer = w.walk_normal.ensures in (
+          child.next (asked.1 (answer.answer.0 w.if-not-walk_normal.false)),
+          subst (Known _) (sym w.known-is) answer.memory,
+        )
+    ]
 
 pub walk_neutral-bounds-known-t-2 : goal.walk_neutral-bounds-known-t-2
 walk_neutral-bounds-known-t-2 t c = given_low c.loop-j.invariant.0.given

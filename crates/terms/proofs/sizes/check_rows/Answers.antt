@@ -46,7 +46,8 @@ shape_of-links-in-Fault c =
     c.loop-k.invariant.1.room ∙ sym c.requires.3.room
 
 pub returns-in-Fault : goal.returns-in-Fault
-returns-in-Fault c = let loop = c.loop-k in
+returns-in-Fault c =
+    let loop = c.loop-k in
     let whole = checking_fault _ _ _ c.requires.2 loop.work _ loop.invariant.0 c.loop-k-test.true
     _ (sym c.in-Fault.is ∙ c.row_answer.ensures) in
     record { answer = whole.0; sizes = whole.1 }
@@ -100,6 +101,7 @@ pub shape_of-links : goal.shape_of-links
 shape_of-links c = c.loop-k.invariant.1.room ∙ sym c.requires.3.room
 
 pub returns : goal.returns
-returns c = let whole = checking_end _ _ _ c.requires.2 c.loop-k.work _
+returns c =
+    let whole = checking_end _ _ _ c.requires.2 c.loop-k.work _
     c.loop-k.invariant.0 c.loop-k-test.false in
     record { answer = whole.0; sizes = whole.1 }

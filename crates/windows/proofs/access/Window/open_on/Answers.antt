@@ -9,7 +9,7 @@ pub returns-then-not-exists : goal.returns-then-not-exists
 returns-then-not-exists c =
     refuses _ _
     (tested _ _ c.exists.ensures c.exists-2.ensures c.exists-3.ensures
-    (not-true _ c.if-not-exists.true-raw))
+    c.if-not-exists.true)
 
 -- where nothing is refused with 15 all three dates exist
 all_there : (c : Else-not-exists)
@@ -17,7 +17,7 @@ all_there : (c : Else-not-exists)
 all_there c =
     (all_exist_lem _ _).0
     (tested _ _ c.exists.ensures c.exists-2.ensures c.exists-3.ensures
-    (not-false _ c.if-not-exists.false-raw))
+    c.if-not-exists.false)
 
 pub days_before-first-requires : goal.days_before-first-requires
 days_before-first-requires c = (all_there (goal.at.days_before-first-requires c).Else-not-exists).first
