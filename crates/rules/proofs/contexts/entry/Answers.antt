@@ -15,12 +15,11 @@ pub returns-then-n-eq0 : goal.returns-then-n-eq0
 returns-then-n-eq0 c = found_none _ _ _ c.if-n-eq0.true
 
 pub loop-at-init : goal.loop-at-init
-loop-at-init c =
-    (
-      parent_numbered _ _ _ c.requires c.if-n-eq0.false c.parent-at.ensures.value,
-      ap (λ p. entry_of c.args.contexts.now p (c.args.x - 1)) c.parent-at.ensures.value
-          ∙ found_further _ _ _ c.if-n-eq0.false c.if-x-eq0.false,
-    )
+loop-at-init c = (
+  parent_numbered _ _ _ c.requires c.if-n-eq0.false c.parent-at.ensures.value,
+  ap (λ p. entry_of c.args.contexts.now p (c.args.x - 1)) c.parent-at.ensures.value
+      ∙ found_further _ _ _ c.if-n-eq0.false c.if-x-eq0.false,
+)
 
 pub parent-at-requires-in-loop-at : goal.parent-at-requires-in-loop-at
 parent-at-requires-in-loop-at c =

@@ -112,8 +112,7 @@ is_node-requires-5 c =
 pub is_shifted-requires : goal.is_shifted-requires
 unfolding rule_subjects
 is_shifted-requires c =
-    let rows = c.requires in
-    (
+    let rows = c.requires in (
       other_rows (λ n h. (omega (arith, h), (omega (arith, h, c.child-f.ensures.below), tt)))
           (rows_known rows),
       omega (arith, rows.below, rows.given.few_terms),
@@ -123,8 +122,7 @@ is_shifted-requires c =
 pub is_shifted-requires-then-extends-is_node : goal.is_shifted-requires-then-extends-is_node
 unfolding rule_subjects
 is_shifted-requires-then-extends-is_node c =
-    let rows = c.requires in
-    (
+    let rows = c.requires in (
       other_rows (λ n h. (omega (arith, h), (omega (arith, h, c.child-g.ensures.below), tt)))
           (rows_known rows),
       omega (arith, rows.below, rows.given.few_terms),

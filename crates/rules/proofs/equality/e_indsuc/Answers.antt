@@ -73,8 +73,7 @@ is_node-requires-3 c =
 pub is_substituted-requires : goal.is_substituted-requires
 unfolding rule_subjects
 is_substituted-requires c =
-    let rows = c.requires in
-    (
+    let rows = c.requires in (
       other_rows (λ n h. (omega (arith, h, c.child-m.ensures.below), (omega (arith, h), tt)))
           (rows_known rows),
       omega (arith, rows.below, rows.given.few_terms, c.child-m.ensures.below),
@@ -83,8 +82,7 @@ is_substituted-requires c =
 pub is_substituted-requires-then-extends_nat_then-is_node : goal.is_substituted-requires-then-extends_nat_then-is_node
 unfolding rule_subjects
 is_substituted-requires-then-extends_nat_then-is_node c =
-    let rows = c.requires in
-    (
+    let rows = c.requires in (
       other_rows (λ n h. (omega (arith, h, c.child-m.ensures.below), (omega (arith, h), tt)))
           (rows_known rows),
       omega (arith, rows.below, rows.given.few_terms, c.child-m.ensures.below),
@@ -93,8 +91,7 @@ is_substituted-requires-then-extends_nat_then-is_node c =
 pub is_substituted-requires-then-extends_nat_then-is_node-2 : goal.is_substituted-requires-then-extends_nat_then-is_node-2
 unfolding rule_subjects
 is_substituted-requires-then-extends_nat_then-is_node-2 c =
-    let rows = c.requires in
-    (
+    let rows = c.requires in (
       other_rows
           (λ n h. (
             omega (arith, h),
@@ -113,8 +110,7 @@ is_substituted-requires-then-extends_nat_then-is_node-2 c =
 pub is_substituted-requires-then-extends_nat_then-is_node-3 : goal.is_substituted-requires-then-extends_nat_then-is_node-3
 unfolding rule_subjects
 is_substituted-requires-then-extends_nat_then-is_node-3 c =
-    let rows = c.requires in
-    (
+    let rows = c.requires in (
       other_rows
           (λ n h. (
             omega (arith, h, c.child-m.ensures.below),

@@ -78,8 +78,7 @@ same_term-requires-2 c =
 pub is_substituted-requires : goal.is_substituted-requires
 unfolding rule_subjects
 is_substituted-requires c =
-    let rows = c.requires in
-    (
+    let rows = c.requires in (
       other_rows (λ n h. (omega (arith, h, c.child-m.ensures.below), (omega (arith, h), tt)))
           (rows_known rows),
       omega (arith, rows.below, rows.given.few_terms, c.child-m.ensures.below),
@@ -88,8 +87,7 @@ is_substituted-requires c =
 pub is_substituted-requires-then-extends_nat_then-is_node : goal.is_substituted-requires-then-extends_nat_then-is_node
 unfolding rule_subjects
 is_substituted-requires-then-extends_nat_then-is_node c =
-    let rows = c.requires in
-    (
+    let rows = c.requires in (
       other_rows (λ n h. (omega (arith, h, c.child-m.ensures.below), (omega (arith, h), tt)))
           (rows_known rows),
       omega (arith, rows.below, rows.given.few_terms, c.child-m.ensures.below),

@@ -12,8 +12,8 @@ use borrow.Author.Rules.{rules}
 use Rattle.rules.proofs.instances.is_instance.Goals as goal
 
 -- a form that is none of the first six is the last
-last-form : (f rule : ℕ) → IsRule rule → f ≡ form_of rule → NoneFrom 0 6 f → form_of rule ≡ 6
-last-form f rule known e none =
+last_form : (f rule : ℕ) → IsRule rule → f ≡ form_of rule → NoneFrom 0 6 f → form_of rule ≡ 6
+last_form f rule known e none =
     let behind : f < 6 → ⊥ = none_from 0 6 f none (omega arith) in omega (arith, form_small rule known, e, behind)
 
 pub shaped-requires : goal.shaped-requires
@@ -61,7 +61,7 @@ neutral_instance-requires c =
 pub step_instance-requires : goal.step_instance-requires
 step_instance-requires c =
     let line = c.requires.line_in_tables in
-    let form = last-form _ _ line.known c.conclusion_form-form.ensures c.in_default.in_default-own.rest in
+    let form = last_form _ _ line.known c.conclusion_form-form.ensures c.in_default.in_default-own.rest in
     let range = (range_6 _ line.known).0 form in
     record { subjects_in_table = given_empty line (c.shaped.ensures.0 c.if-shaped.true); le_rule = range }
 
@@ -82,7 +82,7 @@ returns-in-5 c =
 pub returns-in_default : goal.returns-in_default
 returns-in_default c =
     let line = c.requires.line_in_tables in
-    let form = last-form _ _ line.known c.conclusion_form-form.ensures c.in_default.in_default-own.rest in
+    let form = last_form _ _ line.known c.conclusion_form-form.ensures c.in_default.in_default-own.rest in
     by_group line (c.shaped.ensures.0 c.if-shaped.true) (omega (arith, form))
     c.step_instance.ensures
 

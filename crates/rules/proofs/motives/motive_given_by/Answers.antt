@@ -41,11 +41,17 @@ motive_number-requires c =
 
 pub returns-then-is_node-is_universe : goal.returns-then-is_node-is_universe
 returns-then-is_node-is_universe c =
-    let small = numbers_small c.requires (typed (goal.at.returns-then-is_node-is_universe c).Else-p) in record { number = motive_given _ _ _ (typed (goal.at.returns-then-is_node-is_universe c).Else-p) _ c.type_of-entry.ensures.value _ _
+    let small = numbers_small c.requires (typed (goal.at.returns-then-is_node-is_universe c).Else-p) in record {
+      number = motive_given _ _ _ (typed (goal.at.returns-then-is_node-is_universe c).Else-p) _ c.type_of-entry.ensures.value _ _
           c.parent.ensures.value c.motive_number.ensures
-          ((c.is_node.ensures & c.is_universe.ensures).0 c.if-is_node-is_universe.true); range = omega (arith, c.motive_number.ensures, c.parent.ensures.value) }
+          ((c.is_node.ensures & c.is_universe.ensures).0 c.if-is_node-is_universe.true);
+      range = omega (arith, c.motive_number.ensures, c.parent.ensures.value);
+    }
 
 pub returns : goal.returns
 returns c =
-    record { number = no_motive_lem _ _ _ (typed (goal.at.returns c).Else-p) _ c.type_of-entry.ensures.value
-          (refuted (c.is_node.ensures & c.is_universe.ensures) c.if-is_node-is_universe.false); range = omega arith }
+    record {
+      number = no_motive_lem _ _ _ (typed (goal.at.returns c).Else-p) _ c.type_of-entry.ensures.value
+          (refuted (c.is_node.ensures & c.is_universe.ensures) c.if-is_node-is_universe.false);
+      range = omega arith;
+    }

@@ -29,10 +29,13 @@ pub are_nodes-requires : goal.are_nodes-requires
 unfolding used_premises premise_count rule_subjects
 are_nodes-requires c =
     let rows = c.requires.rows in
-    let below = c.child-z.ensures.below in record { rows_in_table = other_rows
+    let below = c.child-z.ensures.below in record {
+      rows_in_table = other_rows
           (λ n h.
           (omega (arith, h), (omega (arith, h), (omega (arith, h, below), (omega (arith, h), (omega (arith, h), tt))))))
-          rows; rows_in_table_2 = other_rows (λ n h. (omega (arith, h, below), tt)) rows }
+          rows;
+      rows_in_table_2 = other_rows (λ n h. (omega (arith, h, below), tt)) rows;
+    }
 
 pub same_term-requires : goal.same_term-requires
 unfolding used_premises premise_count rule_subjects

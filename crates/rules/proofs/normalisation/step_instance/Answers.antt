@@ -23,21 +23,21 @@ use Rattle.rules.proofs.NormalisationLaws.{rule_60, rule_61, rule_62, rule_63, r
 use Rattle.rules.proofs.normalisation.step_instance.Goals as goal
 
 -- a projection of a pair, where d is what is projected
-first-agrees : {c₁ c₂ p₁ d : Term} → d ≡ child c₁ 1
+first_agrees : {c₁ c₂ p₁ d : Term} → d ≡ child c₁ 1
     → Instance 61 (normal [] p₁ ∷ []) (steps [] c₁ c₂) ↔ ((c₁ ≡ first d) × (d ≡ pair c₂ p₁))
 unfolding child
-first-agrees k = (λ i. let t = rule_61.0 i in (cc, cc), λ h. rule_61.1 (cc))
+first_agrees k = (λ i. let t = rule_61.0 i in (cc, cc), λ h. rule_61.1 (cc))
 
-second-agrees : {c₁ c₂ p₁ d : Term} → d ≡ child c₁ 1
+second_agrees : {c₁ c₂ p₁ d : Term} → d ≡ child c₁ 1
     → Instance 62 (normal [] p₁ ∷ []) (steps [] c₁ c₂) ↔ ((c₁ ≡ second d) × (d ≡ pair p₁ c₂))
 unfolding child
-second-agrees k = (λ i. let t = rule_62.0 i in (cc, cc), λ h. rule_62.1 (cc))
+second_agrees k = (λ i. let t = rule_62.0 i in (cc, cc), λ h. rule_62.1 (cc))
 
 -- a head step has a first subject
-first-subject : {terms : List ℕ} {rule : ℕ} {premises : List LineJudgment} {c : LineJudgment} → form_of rule ≡ 6
+first_subject : {terms : List ℕ} {rule : ℕ} {premises : List LineJudgment} {c : LineJudgment} → form_of rule ≡ 6
     → SubjectsInTable terms rule premises c → RowsInTable terms (c.s1 ∷ [])
 unfolding rule_subjects
-first-subject {terms} {rule} {premises} {c} e given =
+first_subject {terms} {rule} {premises} {c} e given =
     let rest = subjects_from rule 0 (used_premises rule premises) in
     other_rows (λ n h. (h.0, tt)) (subst (λ f. RowsInTable terms (used_subjects f c ++ rest)) e given.rows)
 
@@ -45,7 +45,7 @@ pub child-d-requires : goal.child-d-requires
 child-d-requires c =
     let given = c.requires in
     let form = (range_6 c.args.rule (omega (arith, given.le_rule), omega (arith, given.le_rule))).1 given.le_rule in
-    (first-subject form given.subjects_in_table, omega arith, omega arith)
+    (first_subject form given.subjects_in_table, omega arith, omega arith)
 
 pub n_appabs-requires : goal.n_appabs-requires
 unfolding used_premises premise_count rule_subjects
@@ -89,13 +89,16 @@ n_indsuc-requires c = record { rows = arm_rows c.requires.subjects_in_table c.in
 pub are_nodes-requires-in-67 : goal.are_nodes-requires-in-67
 unfolding used_premises premise_count rule_subjects
 are_nodes-requires-in-67 c =
-    let rows = arm_rows c.requires.subjects_in_table c.in-67.is in record { rows_in_table = other_rows
+    let rows = arm_rows c.requires.subjects_in_table c.in-67.is in record {
+      rows_in_table = other_rows
           (λ n h.
           (omega (arith, h), (omega (arith, h), (omega (arith, h), (omega (arith, h), (omega (arith, h), tt))))))
-          rows; rows_in_table_2 = other_rows
+          rows;
+      rows_in_table_2 = other_rows
           (λ n h.
           (omega (arith, h), (omega (arith, h), (omega (arith, h), (omega (arith, h), (omega (arith, h), tt))))))
-          rows }
+          rows;
+    }
 
 pub returns-in-59 : goal.returns-in-59
 unfolding used_premises premise_count FollowsIn
@@ -111,13 +114,13 @@ pub returns-in-61 : goal.returns-in-61
 unfolding used_premises premise_count FollowsIn
 returns-in-61 c =
     by_law c.requires.subjects_in_table c.in-61.is
-    (λ contexts. first-agrees c.child-d.ensures.value) c.are_nodes-in-61.ensures
+    (λ contexts. first_agrees c.child-d.ensures.value) c.are_nodes-in-61.ensures
 
 pub returns-in-62 : goal.returns-in-62
 unfolding used_premises premise_count FollowsIn
 returns-in-62 c =
     by_law c.requires.subjects_in_table c.in-62.is
-    (λ contexts. second-agrees c.child-d.ensures.value) c.are_nodes-in-62.ensures
+    (λ contexts. second_agrees c.child-d.ensures.value) c.are_nodes-in-62.ensures
 
 pub returns-in-63 : goal.returns-in-63
 unfolding used_premises premise_count FollowsIn

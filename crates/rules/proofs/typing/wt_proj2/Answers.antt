@@ -48,8 +48,7 @@ is_node-requires-2 c =
 pub is_substituted-requires : goal.is_substituted-requires
 unfolding rule_subjects
 is_substituted-requires c =
-    let rows = c.requires in
-    (
+    let rows = c.requires in (
       other_rows (λ n h. (omega (arith, h, c.child-b.ensures.below), (omega (arith, h), (omega (arith, h), tt)))) rows,
       omega (arith, rows.below, rows.few, c.child-b.ensures.below),
     )

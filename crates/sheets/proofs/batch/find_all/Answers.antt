@@ -14,7 +14,7 @@ pub returns : goal.returns
 returns c =
     let args = c.args in
     let said = c.open_batch-o.ensures in
-    record { 
+    record {
       answer =
           c.batch_of.ensures
           ∙ ap answered said.answer
@@ -23,6 +23,6 @@ returns c =
       put =
           c.search_each.ensures
           ∙ ap (λ o. over (listed (λ i. answer_in args.sheet.now o (wanted_at args.wanted.now i)) o.todo) args.answers.now)
-            said.answer
+          said.answer
           ∙ answers_put args.sheet.now (length args.work.now) args.wanted.now args.answers.now _ (λ i h. refl);
     }

@@ -17,22 +17,31 @@ returns-then-edition_of-ge-NEW_EDITION c = record { answer = sym (answer_20 _ _ 
 pub returns-then-place-lines : goal.returns-then-place-lines
 unfolding output_from
 returns-then-place-lines c =
-    let place = c.find_motives-place.ensures.place in record { answer = ap (Refused 21) place
+    let place = c.find_motives-place.ensures.place in record {
+      answer = ap (Refused 21) place
           ∙ sym (answer_21 _ _ _ _ _ (omega (arith, c.edition_of.ensures, c.if-edition_of-ge-NEW_EDITION.false))
-          (omega (arith, place, c.if-place-lines.true))); left = refl }
+          (omega (arith, place, c.if-place-lines.true)));
+      left = refl;
+    }
 
 pub returns-then-out-length : goal.returns-then-out-length
 unfolding output_from
 returns-then-out-length c =
-    record { answer = sym
+    record {
+      answer = sym
           (answer_13 _ _ _ _ _ (omega (arith, c.edition_of.ensures, c.if-edition_of-ge-NEW_EDITION.false))
-          (omega (arith, c.find_motives-place.ensures.place, c.if-place-lines.false)) c.if-out-length.true); left = refl }
+          (omega (arith, c.find_motives-place.ensures.place, c.if-place-lines.false)) c.if-out-length.true);
+      left = refl;
+    }
 
 pub returns : goal.returns
 unfolding output_from
 returns c =
     let place = c.find_motives-place.ensures in
-    let all = c.if-place-lines.false in record { answer = sym
+    let all = c.if-place-lines.false in record {
+      answer = sym
           (answer_written _ _ _ _ _ (omega (arith, c.edition_of.ensures, c.if-edition_of-ge-NEW_EDITION.false))
-          (omega (arith, place.place, all)) c.if-out-length.false); left = writer_leaves _ _ _ _ c.requires c.find_motives-place.new.first
-          (λ n h. place.found n (omega (arith, h, all))) _ _ c.write_converted.ensures }
+          (omega (arith, place.place, all)) c.if-out-length.false);
+      left = writer_leaves _ _ _ _ c.requires c.find_motives-place.new.first
+          (λ n h. place.found n (omega (arith, h, all))) _ _ c.write_converted.ensures;
+    }

@@ -17,9 +17,9 @@ loop-n-preserved c =
     let inv = c.loop-n.invariant in
     let within = c.loop-n-test.true in
     elim c.if-premise-n.branch [
-      then-premise-n w ↦
-        line_changes _ _ _ _ _ inv within w.if-premise-n.true _ refl (w.out-is ∙ w.add_premise.ensures)
-    | else-premise-n w ↦ line_stays _ _ _ _ _ inv within w.if-premise-n.false w.out-is
+      | then-premise-n w ↦
+          line_changes _ _ _ _ _ inv within w.if-premise-n.true _ refl (w.out-is ∙ w.add_premise.ensures)
+      | else-premise-n w ↦ line_stays _ _ _ _ _ inv within w.if-premise-n.false w.out-is
     ]
 
 pub returns : goal.returns

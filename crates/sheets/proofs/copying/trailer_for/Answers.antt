@@ -7,8 +7,8 @@ use borrow.Author.Rules.{rules}
 use Rattle.sheets.proofs.copying.trailer_for.Goals as goal
 
 -- the distance to the terms is summed in another order
-terms-away : (T C L : ℕ) → 10 * T + distance_to_contexts C L ≡ distance_to_terms T C L
-terms-away T C L = omega arith
+terms_away : (T C L : ℕ) → 10 * T + distance_to_contexts C L ≡ distance_to_terms T C L
+terms_away T C L = omega arith
 
 pub returns : goal.returns
 unfolding trailer_for
@@ -19,7 +19,7 @@ returns c =
       contexts = a.contexts;
       lines = a.lines;
       edition = a.edition;
-      to_terms = terms-away a.terms a.contexts a.lines i;
+      to_terms = terms_away a.terms a.contexts a.lines i;
       to_contexts = distance_to_contexts a.contexts a.lines;
       to_lines = distance_to_lines a.lines;
       mark = 0x4C44;

@@ -18,10 +18,13 @@ pub height_of-height-requires : goal.height_of-height-requires
 height_of-height-requires c =
     let pre = c.requires in
     let read = c.read_line.ensures in
-    let within = c.loop-n-test.true in record { table_value = c.rule_table-table.ensures; cites_earlier = (
+    let within = c.loop-n-test.true in record {
+      table_value = c.rule_table-table.ensures;
+      cites_earlier = (
         line_cites _ _ _ pre.1 pre.2 _ _ c.loop-n.invariant within _ read,
         first_ground _ _ _ pre.1 pre.2 _ _ c.loop-n.invariant within _ read,
-      ) }
+      );
+    }
 
 pub overflow_cast-heights : goal.overflow_cast-heights
 overflow_cast-heights c =

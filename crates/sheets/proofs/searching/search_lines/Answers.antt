@@ -18,13 +18,13 @@ loop-n-preserved c =
     let has = c.has_numbers.ensures in
     let best = BestBefore c.args.edition c.args.lines.now c.args.wanted c.args.count in
     elim c.if-has_numbers.branch [
-      then-has_numbers w ↦
-        subst (λ b. best b (loop.n + 1)) (sym w.best-is)
-        (best_next _ _ _ c.args.heights.now _ _ _ _ c.requires.heights_value loop.invariant within
-        (cc (line, judgment, has, w.if-has_numbers.true)) w.better-best.ensures)
-    | else-has_numbers w ↦
-        subst (λ b. best b (loop.n + 1)) (sym w.best-is)
-        (best_passed _ _ _ _ _ _ loop.invariant within (cc (line, judgment, has, w.if-has_numbers.false)))
+      | then-has_numbers w ↦
+          subst (λ b. best b (loop.n + 1)) (sym w.best-is)
+          (best_next _ _ _ c.args.heights.now _ _ _ _ c.requires.heights_value loop.invariant within
+          (cc (line, judgment, has, w.if-has_numbers.true)) w.better-best.ensures)
+      | else-has_numbers w ↦
+          subst (λ b. best b (loop.n + 1)) (sym w.best-is)
+          (best_passed _ _ _ _ _ _ loop.invariant within (cc (line, judgment, has, w.if-has_numbers.false)))
     ]
 
 pub returns-then-best-count : goal.returns-then-best-count

@@ -30,23 +30,32 @@ overflow_sub-left c =
 pub returns-then-out-length : goal.returns-then-out-length
 unfolding out_from kept_length
 returns-then-out-length c =
-    let pre = c.requires in record { answer = answer_13 _ _ _ _ pre.good _ _ c.edition_of-edition.ensures _ c.kept_use-place.ensures c.if-place-lines.false
-          c.if-out-length.true; left = refl }
+    let pre = c.requires in record {
+      answer = answer_13 _ _ _ _ pre.good _ _ c.edition_of-edition.ensures _ c.kept_use-place.ensures c.if-place-lines.false
+          c.if-out-length.true;
+      left = refl;
+    }
 
 pub write_sheet-requires : goal.write_sheet-requires
 unfolding kept_length
 write_sheet-requires c =
     let pre = c.requires in
     let own = c.edition_of-edition.ensures in
-    let numbers = c.number_lines.ensures in record { small_trailer = writer_asks _ _ _ _ pre.good pre.rises.0 pre.rises.1 numbers own c.trailer_for-trailer.ensures; t_in_bounds = writer_room _ _ _ _ pre.good pre.rises.0 pre.rises.1 numbers own c.trailer_for-trailer.ensures _
-          c.if-out-length.false }
+    let numbers = c.number_lines.ensures in record {
+      small_trailer = writer_asks _ _ _ _ pre.good pre.rises.0 pre.rises.1 numbers own c.trailer_for-trailer.ensures;
+      t_in_bounds = writer_room _ _ _ _ pre.good pre.rises.0 pre.rises.1 numbers own c.trailer_for-trailer.ensures _
+          c.if-out-length.false;
+    }
 
 pub returns : goal.returns
 unfolding out_from kept_length
 returns c =
     let pre = c.requires in
-    let own = c.edition_of-edition.ensures in record { answer = answer_written _ _ _ _ pre.good _ _ own _ c.kept_use-place.ensures c.if-place-lines.false
-          c.if-out-length.false; left = writer_leaves _ _ _ _ pre.good pre.rises.0 pre.rises.1 c.number_lines.ensures own
+    let own = c.edition_of-edition.ensures in record {
+      answer = answer_written _ _ _ _ pre.good _ _ own _ c.kept_use-place.ensures c.if-place-lines.false
+          c.if-out-length.false;
+      left = writer_leaves _ _ _ _ pre.good pre.rises.0 pre.rises.1 c.number_lines.ensures own
           c.trailer_for-trailer.ensures
           (λ i. omega (arith, c.type_inv.sheet i)) _ _
-          c.write_sheet.ensures }
+          c.write_sheet.ensures;
+    }

@@ -28,8 +28,8 @@ withdraw_lines-requires c =
     let all = all_lines c.args.lines c.args.set.now rising
     (λ m.
     elim c.if-count-gt0.branch [
-      then-count-gt0+else-lines-last w ↦ omega (arith, w.if-lines-last.false, m.1)
-    | else-count-gt0 w ↦ omega (arith, w.if-count-gt0.false, m.0)
+      | then-count-gt0+else-lines-last w ↦ omega (arith, w.if-lines-last.false, m.1)
+      | else-count-gt0 w ↦ omega (arith, w.if-count-gt0.false, m.0)
     ]) in
     record { good = c.requires; rises = (rising, all) }
 
@@ -42,7 +42,7 @@ returns c =
     let answer = lines_there _ _ _ args.lines args.set.now _ rises
     (λ m.
     elim c.if-count-gt0.branch [
-      then-count-gt0+else-lines-last w ↦ omega (arith, w.if-lines-last.false, m.1)
-    | else-count-gt0 w ↦ omega (arith, w.if-count-gt0.false, m.0)
+      | then-count-gt0+else-lines-last w ↦ omega (arith, w.if-lines-last.false, m.1)
+      | else-count-gt0 w ↦ omega (arith, w.if-count-gt0.false, m.0)
     ]) in
     record { answer = lines.answer ∙ sym answer; left = lines.left }

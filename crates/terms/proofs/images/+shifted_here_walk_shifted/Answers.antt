@@ -1,6 +1,4 @@
 use mathlib.Core.Path.{◌≡◌, sym, subst}
-use mathlib.Core.List.{[]}
-use Prim.Native.Nat.{◌-◌}
 use Rattle.terms.specs.Decides.{Decides}
 use Rattle.terms.specs.Rows.{term}
 use Rattle.terms.specs.Substitution.{shift}
@@ -26,10 +24,13 @@ shifted_here-is_raised_variable-requires t c =
 pub shifted_here-returns-then-tag-eq1 : goal.shifted_here-returns-then-tag-eq1
 shifted_here-returns-then-tag-eq1 t c =
     let row = variable_row _ _ c.requires.0.table _ c.requires.0.below.0 _ _
-    c.word-tag.ensures.value c.if-tag-eq1.true c.word.ensures.value in record { answer = subst
+    c.word-tag.ensures.value c.if-tag-eq1.true c.word.ensures.value in record {
+      answer = subst
           (λ x. Decides c.is_raised_variable.result
           (term c.args.rows.now c.args.u ≡ shift c.args.k c.args.d x)) (sym row)
-          c.is_raised_variable.ensures; memory = c.requires.3 }
+          c.is_raised_variable.ensures;
+      memory = c.requires.3;
+    }
 
 pub shifted_here-same_head-requires : goal.shifted_here-same_head-requires
 shifted_here-same_head-requires t c = other_rows (λ n h. h) c.requires.0
@@ -39,12 +40,11 @@ shifted_here-arity-count-requires t c =
     omega (arith, (row_described _ _ c.requires.0.table _ c.requires.0.below.0).high, c.word-tag.ensures.value)
 
 pub shifted_here-loop-j-init : goal.shifted_here-loop-j-init
-shifted_here-loop-j-init t c =
-    (
-      walk_start _ _ _ (under_shift c.args.d) _ _ _ _ _ c.requires.0 c.word-tag.ensures.value
-          c.if-tag-eq1.false _ c.same_head.ensures c.if-same_head.true c.arity-count.ensures.value,
-      c.requires.3,
-    )
+shifted_here-loop-j-init t c = (
+  walk_start _ _ _ (under_shift c.args.d) _ _ _ _ _ c.requires.0 c.word-tag.ensures.value
+      c.if-tag-eq1.false _ c.same_head.ensures c.if-same_head.true c.arity-count.ensures.value,
+  c.requires.3,
+)
 
 pub shifted_here-binders-requires : goal.shifted_here-binders-requires
 shifted_here-binders-requires t c =
@@ -56,18 +56,16 @@ shifted_here-overflow_add-k t c =
     omega (arith, c.binders.ensures.range, c.requires.1)
 
 pub shifted_here-word-requires-in-loop-j : goal.shifted_here-word-requires-in-loop-j
-shifted_here-word-requires-in-loop-j t c =
-    (
-      row_whole _ _ _ c.requires.0.table c.requires.0.below.0,
-      walk_place _ _ _ _ _ _ _ _ _ _ c.loop-j.invariant.0 c.loop-j-test.true,
-    )
+shifted_here-word-requires-in-loop-j t c = (
+  row_whole _ _ _ c.requires.0.table c.requires.0.below.0,
+  walk_place _ _ _ _ _ _ _ _ _ _ c.loop-j.invariant.0 c.loop-j-test.true,
+)
 
 pub shifted_here-word-requires-in-loop-j-2 : goal.shifted_here-word-requires-in-loop-j-2
-shifted_here-word-requires-in-loop-j-2 t c =
-    (
-      row_whole _ _ _ c.requires.0.table c.requires.0.below.1.0,
-      walk_place _ _ _ _ _ _ _ _ _ _ c.loop-j.invariant.0 c.loop-j-test.true,
-    )
+shifted_here-word-requires-in-loop-j-2 t c = (
+  row_whole _ _ _ c.requires.0.table c.requires.0.below.1.0,
+  walk_place _ _ _ _ _ _ _ _ _ _ c.loop-j.invariant.0 c.loop-j-test.true,
+)
 
 pub shifted_here-walk_shifted-requires : goal.shifted_here-walk_shifted-requires
 shifted_here-walk_shifted-requires t c =
@@ -92,27 +90,32 @@ pub shifted_here-loop-j-smaller : goal.shifted_here-loop-j-smaller
 shifted_here-loop-j-smaller t c = omega (arith, c.loop-j.invariant.0.visit.to)
 
 pub shifted_here-loop-j-preserved : goal.shifted_here-loop-j-preserved
-shifted_here-loop-j-preserved t c =
-    (
-      walk_next _ _ _ _ _ _ _ _ _ _ c.loop-j.invariant.0 _ _ _ c.loop-j-test.true
-          c.binders.ensures.value c.word-in-loop-j.ensures.value c.word-in-loop-j-2.ensures.value _
-          c.walk_shifted.ensures.answer c.if-walk_shifted.true,
-      c.walk_shifted.ensures.memory,
-    )
+shifted_here-loop-j-preserved t c = (
+  walk_next _ _ _ _ _ _ _ _ _ _ c.loop-j.invariant.0 _ _ _ c.loop-j-test.true
+      c.binders.ensures.value c.word-in-loop-j.ensures.value c.word-in-loop-j-2.ensures.value _
+      c.walk_shifted.ensures.answer c.if-walk_shifted.true,
+  c.walk_shifted.ensures.memory,
+)
 
 pub shifted_here-returns-else-walk_shifted : goal.shifted_here-returns-else-walk_shifted
 shifted_here-returns-else-walk_shifted t c =
-    record { answer = walk_stop _ _ _ _ _ _ _ _ _ _ c.loop-j.invariant.0 _ _ _ c.loop-j-test.true
+    record {
+      answer = walk_stop _ _ _ _ _ _ _ _ _ _ c.loop-j.invariant.0 _ _ _ c.loop-j-test.true
           c.binders.ensures.value c.word-in-loop-j.ensures.value c.word-in-loop-j-2.ensures.value _
-          c.walk_shifted.ensures.answer c.if-walk_shifted.false; memory = c.walk_shifted.ensures.memory }
+          c.walk_shifted.ensures.answer c.if-walk_shifted.false;
+      memory = c.walk_shifted.ensures.memory;
+    }
 
 pub shifted_here-returns-after-loop-j : goal.shifted_here-returns-after-loop-j
 shifted_here-returns-after-loop-j t c = record { answer = walk_end _ _ _ _ _ _ _ _ _ _ c.loop-j.invariant.0 c.loop-j-test.false; memory = c.loop-j.invariant.1 }
 
 pub shifted_here-returns-else-same_head : goal.shifted_here-returns-else-same_head
 shifted_here-returns-else-same_head t c =
-    record { answer = heads_differ _ _ _ (under_shift c.args.d) _ _ _ _ c.requires.0 c.word-tag.ensures.value
-          c.if-tag-eq1.false _ c.same_head.ensures c.if-same_head.false; memory = c.requires.3 }
+    record {
+      answer = heads_differ _ _ _ (under_shift c.args.d) _ _ _ _ c.requires.0 c.word-tag.ensures.value
+          c.if-tag-eq1.false _ c.same_head.ensures c.if-same_head.false;
+      memory = c.requires.3;
+    }
 
 pub walk_shifted-is_remembered-requires : goal.walk_shifted-is_remembered-requires
 walk_shifted-is_remembered-requires t c = code_bounds _ _ _ _ _ c.requires.0 c.requires.1

@@ -5,7 +5,6 @@ use Prim.Native.Nat.{◌+◌, ◌*◌, ◌-◌}
 use Rattle.terms.specs.Substitution.{shift}
 use Rattle.terms.specs.Memo.{MemoHolds}
 use Rattle.terms.proofs.WalkLaws.{Walk, under_shift}
-use native.Mathlib.Omega.{arith}
 use Rattle.terms.proofs.images.+shifted_here_walk_shifted.Given as goal
 
 abbrev pub decreases-walk_shifted : goal.decreases-walk_shifted

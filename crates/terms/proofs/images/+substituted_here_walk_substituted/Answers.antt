@@ -1,5 +1,4 @@
 use mathlib.Core.Path.{◌≡◌, sym, subst}
-use Prim.Native.Nat.{◌-◌}
 use Rattle.terms.specs.Decides.{Decides}
 use Rattle.terms.specs.Rows.{term}
 use Rattle.terms.specs.Substitution.{substitute}
@@ -27,10 +26,13 @@ pub substituted_here-returns-then-tag-eq1 : goal.substituted_here-returns-then-t
 unfolding substitute
 substituted_here-returns-then-tag-eq1 t c =
     let row = variable_row _ _ c.requires.0.table _ c.requires.0.below.0 _ _
-    c.word-tag.ensures.value c.if-tag-eq1.true c.word.ensures.value in record { answer = subst
+    c.word-tag.ensures.value c.if-tag-eq1.true c.word.ensures.value in record {
+      answer = subst
           (λ x. Decides c.is_image.result
           (term c.args.rows.now c.args.u ≡ substitute c.args.k (substitution c.args.rows.now c.args.by)
-          x)) (sym row) c.is_image.ensures; memory = c.requires.2 }
+          x)) (sym row) c.is_image.ensures;
+      memory = c.requires.2;
+    }
 
 pub substituted_here-same_head-requires : goal.substituted_here-same_head-requires
 substituted_here-same_head-requires t c = other_rows (λ n h. (h.0, (h.1.0, tt))) c.requires.0
@@ -40,13 +42,12 @@ substituted_here-arity-count-requires t c =
     omega (arith, (row_described _ _ c.requires.0.table _ c.requires.0.below.0).high, c.word-tag.ensures.value)
 
 pub substituted_here-loop-j-init : goal.substituted_here-loop-j-init
-substituted_here-loop-j-init t c =
-    (
-      walk_start _ _ _ (under_substitute (substitution c.args.rows.now c.args.by)) _ _ _ _ _ c.requires.0
-          c.word-tag.ensures.value c.if-tag-eq1.false _ c.same_head.ensures c.if-same_head.true
-          c.arity-count.ensures.value,
-      c.requires.2,
-    )
+substituted_here-loop-j-init t c = (
+  walk_start _ _ _ (under_substitute (substitution c.args.rows.now c.args.by)) _ _ _ _ _ c.requires.0
+      c.word-tag.ensures.value c.if-tag-eq1.false _ c.same_head.ensures c.if-same_head.true
+      c.arity-count.ensures.value,
+  c.requires.2,
+)
 
 pub substituted_here-binders-requires : goal.substituted_here-binders-requires
 substituted_here-binders-requires t c =
@@ -58,18 +59,16 @@ substituted_here-overflow_add-k t c =
     omega (arith, c.binders.ensures.range, c.requires.1)
 
 pub substituted_here-word-requires-in-loop-j : goal.substituted_here-word-requires-in-loop-j
-substituted_here-word-requires-in-loop-j t c =
-    (
-      row_whole _ _ _ c.requires.0.table c.requires.0.below.0,
-      walk_place _ _ _ _ _ _ _ _ _ _ c.loop-j.invariant.0 c.loop-j-test.true,
-    )
+substituted_here-word-requires-in-loop-j t c = (
+  row_whole _ _ _ c.requires.0.table c.requires.0.below.0,
+  walk_place _ _ _ _ _ _ _ _ _ _ c.loop-j.invariant.0 c.loop-j-test.true,
+)
 
 pub substituted_here-word-requires-in-loop-j-2 : goal.substituted_here-word-requires-in-loop-j-2
-substituted_here-word-requires-in-loop-j-2 t c =
-    (
-      row_whole _ _ _ c.requires.0.table c.requires.0.below.1.0,
-      walk_place _ _ _ _ _ _ _ _ _ _ c.loop-j.invariant.0 c.loop-j-test.true,
-    )
+substituted_here-word-requires-in-loop-j-2 t c = (
+  row_whole _ _ _ c.requires.0.table c.requires.0.below.1.0,
+  walk_place _ _ _ _ _ _ _ _ _ _ c.loop-j.invariant.0 c.loop-j-test.true,
+)
 
 pub substituted_here-walk_substituted-requires : goal.substituted_here-walk_substituted-requires
 substituted_here-walk_substituted-requires t c =
@@ -93,27 +92,32 @@ pub substituted_here-loop-j-smaller : goal.substituted_here-loop-j-smaller
 substituted_here-loop-j-smaller t c = omega (arith, c.loop-j.invariant.0.visit.to)
 
 pub substituted_here-loop-j-preserved : goal.substituted_here-loop-j-preserved
-substituted_here-loop-j-preserved t c =
-    (
-      walk_next _ _ _ _ _ _ _ _ _ _ c.loop-j.invariant.0 _ _ _ c.loop-j-test.true
-          c.binders.ensures.value c.word-in-loop-j.ensures.value c.word-in-loop-j-2.ensures.value _
-          c.walk_substituted.ensures.answer c.if-walk_substituted.true,
-      c.walk_substituted.ensures.memory,
-    )
+substituted_here-loop-j-preserved t c = (
+  walk_next _ _ _ _ _ _ _ _ _ _ c.loop-j.invariant.0 _ _ _ c.loop-j-test.true
+      c.binders.ensures.value c.word-in-loop-j.ensures.value c.word-in-loop-j-2.ensures.value _
+      c.walk_substituted.ensures.answer c.if-walk_substituted.true,
+  c.walk_substituted.ensures.memory,
+)
 
 pub substituted_here-returns-else-walk_substituted : goal.substituted_here-returns-else-walk_substituted
 substituted_here-returns-else-walk_substituted t c =
-    record { answer = walk_stop _ _ _ _ _ _ _ _ _ _ c.loop-j.invariant.0 _ _ _ c.loop-j-test.true
+    record {
+      answer = walk_stop _ _ _ _ _ _ _ _ _ _ c.loop-j.invariant.0 _ _ _ c.loop-j-test.true
           c.binders.ensures.value c.word-in-loop-j.ensures.value c.word-in-loop-j-2.ensures.value _
-          c.walk_substituted.ensures.answer c.if-walk_substituted.false; memory = c.walk_substituted.ensures.memory }
+          c.walk_substituted.ensures.answer c.if-walk_substituted.false;
+      memory = c.walk_substituted.ensures.memory;
+    }
 
 pub substituted_here-returns-after-loop-j : goal.substituted_here-returns-after-loop-j
 substituted_here-returns-after-loop-j t c = record { answer = walk_end _ _ _ _ _ _ _ _ _ _ c.loop-j.invariant.0 c.loop-j-test.false; memory = c.loop-j.invariant.1 }
 
 pub substituted_here-returns-else-same_head : goal.substituted_here-returns-else-same_head
 substituted_here-returns-else-same_head t c =
-    record { answer = heads_differ _ _ _ (under_substitute (substitution c.args.rows.now c.args.by)) _ _ _ _ c.requires.0
-          c.word-tag.ensures.value c.if-tag-eq1.false _ c.same_head.ensures c.if-same_head.false; memory = c.requires.2 }
+    record {
+      answer = heads_differ _ _ _ (under_substitute (substitution c.args.rows.now c.args.by)) _ _ _ _ c.requires.0
+          c.word-tag.ensures.value c.if-tag-eq1.false _ c.same_head.ensures c.if-same_head.false;
+      memory = c.requires.2;
+    }
 
 pub walk_substituted-is_remembered-requires : goal.walk_substituted-is_remembered-requires
 walk_substituted-is_remembered-requires t c = code_bounds _ _ _ _ _ c.requires.0 c.requires.1

@@ -5,7 +5,6 @@ use Rattle.terms.specs.Substitution.{substitute}
 use Rattle.terms.specs.Images.{subst_rows, substitution}
 use Rattle.terms.specs.Memo.{MemoHolds}
 use Rattle.terms.proofs.WalkLaws.{Walk, under_substitute}
-use native.Mathlib.Omega.{arith}
 use Rattle.terms.proofs.images.+substituted_here_walk_substituted.Given as goal
 
 abbrev pub decreases-walk_substituted : goal.decreases-walk_substituted

@@ -1,7 +1,6 @@
 -- Each description of what is put gives its image.
 use mathlib.Core.Path.{sym, ◌∙◌, ap}
 use Rattle.terms.specs.Images.{image_of}
-use borrow.Author.Rules.{rules}
 use Rattle.terms.proofs.images.image_of.Goals as goal
 
 pub returns-in-Row : goal.returns-in-Row

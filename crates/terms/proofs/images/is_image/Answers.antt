@@ -9,7 +9,6 @@ use Rattle.terms.specs.Images.{image_term, image_rows, image_number, substitutio
 use Rattle.terms.proofs.Tests.{other_rows}
 use Rattle.terms.proofs.SubstitutionLaws.{image_bound, image_free}
 use Rattle.terms.proofs.ImageLaws.{image_means, image_small, image_rows_lem}
-use borrow.Author.Rules.{rules}
 use native.Mathlib.Omega.{arith}
 use Rattle.terms.proofs.images.is_image.Goals as goal
 
@@ -23,17 +22,16 @@ returns-then-i-k c =
     c.is_node.ensures
 
 pub is_raised_image-requires : goal.is_raised_image-requires
-is_raised_image-requires c =
-    (
-      other_rows
-          (λ n h. (
-            h.0,
-            subst (λ s. AllBelow n (image_rows s)) (sym c.image_of.ensures) (image_rows_lem c.args.by _ n h.1),
-          )) c.requires.0,
-      subst (λ s. image_number s ≤ 65540) (sym c.image_of.ensures)
-          (omega (arith, image_small c.args.by (c.args.i - c.args.k))),
-      c.requires.2,
-    )
+is_raised_image-requires c = (
+  other_rows
+      (λ n h. (
+        h.0,
+        subst (λ s. AllBelow n (image_rows s)) (sym c.image_of.ensures) (image_rows_lem c.args.by _ n h.1),
+      )) c.requires.0,
+  subst (λ s. image_number s ≤ 65540) (sym c.image_of.ensures)
+      (omega (arith, image_small c.args.by (c.args.i - c.args.k))),
+  c.requires.2,
+)
 
 pub returns : goal.returns
 returns c =

@@ -9,7 +9,6 @@ use Rattle.terms.specs.Table.{RowsInTable}
 use Rattle.terms.specs.Images.{image_term, image_rows, image_number}
 use Rattle.terms.proofs.Tests.{other_rows}
 use Rattle.terms.proofs.ImageLaws.{raised_variable}
-use borrow.Author.Rules.{rules}
 use native.Mathlib.Omega.{arith}
 use Rattle.terms.proofs.images.is_raised_image.Goals as goal
 
@@ -24,49 +23,45 @@ is_node-requires c =
     c.requires.0)
 
 pub is_shifted-requires : goal.is_shifted-requires
-is_shifted-requires c =
-    (
-      other_rows (λ n h. (h.1.0, (h.0, tt)))
-          (subst (λ s. RowsInTable c.args.rows.now (c.args.u ∷ image_rows s)) c.in-Row.is
-          c.requires.0),
-      omega (
-        arith,
-        (subst (λ s. RowsInTable c.args.rows.now (c.args.u ∷ image_rows s)) c.in-Row.is c.requires.0).below.1.0,
-        c.requires.0.few,
-      ),
-      c.requires.2,
-    )
+is_shifted-requires c = (
+  other_rows (λ n h. (h.1.0, (h.0, tt)))
+      (subst (λ s. RowsInTable c.args.rows.now (c.args.u ∷ image_rows s)) c.in-Row.is
+      c.requires.0),
+  omega (
+    arith,
+    (subst (λ s. RowsInTable c.args.rows.now (c.args.u ∷ image_rows s)) c.in-Row.is c.requires.0).below.1.0,
+    c.requires.0.few,
+  ),
+  c.requires.2,
+)
 
 pub is_node-requires-in-Zero : goal.is_node-requires-in-Zero
 is_node-requires-in-Zero c = other_rows (λ n h. (h.0, tt)) c.requires.0
 
 pub is_raised_first-requires : goal.is_raised_first-requires
-is_raised_first-requires c =
-    (
-      other_rows (λ n h. (h.1.0, (h.0, tt)))
-          (subst (λ s. RowsInTable c.args.rows.now (c.args.u ∷ image_rows s)) c.in-First.is
-          c.requires.0),
-      c.requires.2,
-    )
+is_raised_first-requires c = (
+  other_rows (λ n h. (h.1.0, (h.0, tt)))
+      (subst (λ s. RowsInTable c.args.rows.now (c.args.u ∷ image_rows s)) c.in-First.is
+      c.requires.0),
+  c.requires.2,
+)
 
 pub is_raised_succ-requires : goal.is_raised_succ-requires
-is_raised_succ-requires c =
-    (
-      other_rows (λ n h. (h.0, tt))
-          (subst (λ s. RowsInTable c.args.rows.now (c.args.u ∷ image_rows s)) c.in-SuccVar.is
-          c.requires.0),
-      subst (λ s. image_number s ≤ 65540) c.in-SuccVar.is c.requires.1,
-      c.requires.2,
-    )
+is_raised_succ-requires c = (
+  other_rows (λ n h. (h.0, tt))
+      (subst (λ s. RowsInTable c.args.rows.now (c.args.u ∷ image_rows s)) c.in-SuccVar.is
+      c.requires.0),
+  subst (λ s. image_number s ≤ 65540) c.in-SuccVar.is c.requires.1,
+  c.requires.2,
+)
 
 pub is_raised_ind-requires : goal.is_raised_ind-requires
-is_raised_ind-requires c =
-    (
-      other_rows (λ n h. (h.1.0, (h.1.1.0, (h.1.1.1.0, (h.1.1.1.1.0, (h.0, tt))))))
-          (subst (λ s. RowsInTable c.args.rows.now (c.args.u ∷ image_rows s)) c.in-Ind.is
-          c.requires.0),
-      c.requires.2,
-    )
+is_raised_ind-requires c = (
+  other_rows (λ n h. (h.1.0, (h.1.1.0, (h.1.1.1.0, (h.1.1.1.1.0, (h.0, tt))))))
+      (subst (λ s. RowsInTable c.args.rows.now (c.args.u ∷ image_rows s)) c.in-Ind.is
+      c.requires.0),
+  c.requires.2,
+)
 
 pub returns-in-Var : goal.returns-in-Var
 returns-in-Var c =

@@ -38,40 +38,36 @@ is_node-requires c =
     )) c.requires.0
 
 pub is_shifted-requires : goal.is_shifted-requires
-is_shifted-requires c =
-    (
-      other_rows (λ n h. (h.0, (omega (arith, c.child-v.ensures.below, h.1.1.1.1.0), tt)))
-          c.requires.0,
-      omega (arith, c.requires.0.below.0, c.requires.0.few),
-      c.requires.1,
-    )
+is_shifted-requires c = (
+  other_rows (λ n h. (h.0, (omega (arith, c.child-v.ensures.below, h.1.1.1.1.0), tt)))
+      c.requires.0,
+  omega (arith, c.requires.0.below.0, c.requires.0.few),
+  c.requires.1,
+)
 
 pub is_shifted-requires-then-is_node : goal.is_shifted-requires-then-is_node
-is_shifted-requires-then-is_node c =
-    (
-      other_rows (λ n h. (h.1.0, (omega (arith, c.child-w.ensures.below, h.1.1.1.1.0), tt)))
-          c.requires.0,
-      omega (arith, c.requires.0.below.1.0, c.requires.0.few),
-      c.requires.1,
-    )
+is_shifted-requires-then-is_node c = (
+  other_rows (λ n h. (h.1.0, (omega (arith, c.child-w.ensures.below, h.1.1.1.1.0), tt)))
+      c.requires.0,
+  omega (arith, c.requires.0.below.1.0, c.requires.0.few),
+  c.requires.1,
+)
 
 pub is_shifted-requires-then-is_node-2 : goal.is_shifted-requires-then-is_node-2
-is_shifted-requires-then-is_node-2 c =
-    (
-      other_rows (λ n h. (h.1.1.0, (omega (arith, c.child-x.ensures.below, h.1.1.1.1.0), tt)))
-          c.requires.0,
-      omega (arith, c.requires.0.below.1.1.0, c.requires.0.few),
-      c.requires.1,
-    )
+is_shifted-requires-then-is_node-2 c = (
+  other_rows (λ n h. (h.1.1.0, (omega (arith, c.child-x.ensures.below, h.1.1.1.1.0), tt)))
+      c.requires.0,
+  omega (arith, c.requires.0.below.1.1.0, c.requires.0.few),
+  c.requires.1,
+)
 
 pub is_shifted-requires-then-is_node-3 : goal.is_shifted-requires-then-is_node-3
-is_shifted-requires-then-is_node-3 c =
-    (
-      other_rows (λ n h. (h.1.1.1.0, (omega (arith, c.child-y.ensures.below, h.1.1.1.1.0), tt)))
-          c.requires.0,
-      omega (arith, c.requires.0.below.1.1.1.0, c.requires.0.few),
-      c.requires.1,
-    )
+is_shifted-requires-then-is_node-3 c = (
+  other_rows (λ n h. (h.1.1.1.0, (omega (arith, c.child-y.ensures.below, h.1.1.1.1.0), tt)))
+      c.requires.0,
+  omega (arith, c.requires.0.below.1.1.1.0, c.requires.0.few),
+  c.requires.1,
+)
 
 pub returns-then-is_node : goal.returns-then-is_node
 unfolding shift

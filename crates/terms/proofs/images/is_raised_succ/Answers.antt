@@ -5,7 +5,6 @@ use Rattle.terms.specs.Rows.{term}
 use Rattle.terms.specs.Substitution.{shift}
 use Rattle.terms.proofs.Tests.{decides_via, ◌&◌}
 use Rattle.terms.proofs.ImageLaws.{succ_parts, raised_variable}
-use borrow.Author.Rules.{rules}
 use native.Mathlib.Omega.{arith}
 use Rattle.terms.proofs.images.is_raised_succ.Goals as goal
 

@@ -5,7 +5,6 @@ use Rattle.terms.specs.Rows.{term}
 use Rattle.terms.specs.Substitution.{shift}
 use Rattle.terms.specs.Term.{var}
 use Rattle.terms.proofs.SubstitutionLaws.{raise_bound, raise_free}
-use borrow.Author.Rules.{rules}
 use Rattle.terms.proofs.images.is_raised_variable.Goals as goal
 
 pub returns-then-i-k : goal.returns-then-i-k

@@ -1,6 +1,5 @@
 -- A walk with a memory that holds nothing yet.
 use Rattle.terms.proofs.MemoLaws.{memo_none}
-use borrow.Author.Rules.{rules}
 use Rattle.terms.proofs.images.is_shifted.Goals as goal
 
 pub walk_shifted-requires : goal.walk_shifted-requires

@@ -1,6 +1,5 @@
 -- A walk with a memory that holds nothing yet.
 use Rattle.terms.proofs.MemoLaws.{memo_none}
-use borrow.Author.Rules.{rules}
 use Rattle.terms.proofs.images.is_substituted.Goals as goal
 
 pub walk_substituted-requires : goal.walk_substituted-requires

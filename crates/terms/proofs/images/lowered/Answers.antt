@@ -2,7 +2,6 @@
 use mathlib.Core.Path.{sym, ap}
 use Rattle.terms.specs.Images.{lowered_of}
 use Rattle.terms.proofs.ImageLaws.{lowered_far}
-use borrow.Author.Rules.{rules}
 use Rattle.terms.proofs.images.lowered.Goals as goal
 
 pub returns-then-i-eq0 : goal.returns-then-i-eq0

@@ -3,7 +3,6 @@ use mathlib.Core.Path.{sym, ap}
 use Rattle.terms.specs.Images.{image_of}
 use Rattle.terms.specs.declared.images.Subst.TheVariants as by
 use Rattle.terms.proofs.ImageLaws.{raised_far}
-use borrow.Author.Rules.{rules}
 use Rattle.terms.proofs.images.raised.Goals as goal
 
 pub returns-then-i-eq0 : goal.returns-then-i-eq0

@@ -1,6 +1,5 @@
 -- A word that is the comparison's shows that it stands in the memory.
 use mathlib.Core.Path.{◌∙◌}
-use borrow.Author.Rules.{rules}
 use borrow.Author.Tests.{eqb-true}
 use Rattle.terms.proofs.memo.is_remembered.Goals as goal
 

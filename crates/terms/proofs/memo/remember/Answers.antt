@@ -1,7 +1,6 @@
 -- One word of the memory is written.
 use mathlib.Core.Path.{ap}
 use lib.ListN.{set}
-use borrow.Author.Rules.{rules}
 use Rattle.terms.proofs.memo.remember.Goals as goal
 
 pub returns : goal.returns

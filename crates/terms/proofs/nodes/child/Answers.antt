@@ -24,5 +24,8 @@ returns-then-j-arity c =
 
 pub returns : goal.returns
 returns c =
-    record { value = child_missing _ _ c.requires.0.table _ c.requires.0.below.0 _ _ _ c.word.ensures.value
-          c.arity.ensures.value c.if-j-arity.false; below = search rules }
+    record {
+      value = child_missing _ _ c.requires.0.table _ c.requires.0.below.0 _ _ _ c.word.ensures.value
+          c.arity.ensures.value c.if-j-arity.false;
+      below = search rules;
+    }

@@ -1,6 +1,5 @@
 -- A row spells the node exactly if it holds the node's words.
 use Rattle.terms.proofs.NodeLaws.{node_decided, row_whole}
-use borrow.Author.Rules.{rules}
 use Rattle.terms.proofs.nodes.is_node.Goals as goal
 
 pub holds-requires : goal.holds-requires

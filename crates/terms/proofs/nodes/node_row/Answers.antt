@@ -1,7 +1,6 @@
 -- The words of each node are those of its row.
 use mathlib.Core.Path.{sym, ◌∙◌, ap}
 use Rattle.terms.specs.Nodes.{node_row}
-use borrow.Author.Rules.{rules}
 use Rattle.terms.proofs.nodes.node_row.Goals as goal
 
 pub returns-in-Var : goal.returns-in-Var

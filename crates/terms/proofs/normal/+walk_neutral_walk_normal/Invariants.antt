@@ -1,6 +1,5 @@
 -- The recognisers of normal and neutral terms: twice the row's number falls, one more on the normal side.
 use Prim.Native.Nat.{ℕ, ◌+◌, ◌*◌, ◌-◌}
-use native.Mathlib.Omega.{arith}
 use Rattle.terms.specs.Term.{Term}
 use Rattle.terms.specs.Tag.{tag_in}
 use Rattle.terms.specs.Rows.{term}

@@ -1,6 +1,5 @@
 -- The recognisers begin with no row remembered.
 use Rattle.terms.proofs.RecognitionLaws.{known_none}
-use borrow.Author.Rules.{rules}
 use Rattle.terms.proofs.normal.is_normal.Goals as goal
 
 pub walk_normal-requires : goal.walk_normal-requires

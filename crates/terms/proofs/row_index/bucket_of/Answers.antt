@@ -1,6 +1,5 @@
 use mathlib.Core.Path.{refl}
 use Rattle.terms.specs.RowIndex.{bucket_of}
-use borrow.Author.Rules.{rules}
 use Rattle.terms.proofs.row_index.bucket_of.Goals as goal
 
 pub returns : goal.returns

@@ -1,5 +1,4 @@
 use mathlib.Core.Path.{sym, ◌∙◌}
-use borrow.Author.Rules.{rules}
 use native.Mathlib.Omega.{arith}
 use Rattle.terms.proofs.IndexLaws.{bucket_below, search_start, search_found, search_done, search_next}
 use Rattle.terms.proofs.row_index.repeated.Goals as goal

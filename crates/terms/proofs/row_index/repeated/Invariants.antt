@@ -1,6 +1,4 @@
 -- The rows before the one that the chain stands at answer for all.
-use borrow.Author.Rules.{rules}
-use native.Mathlib.Omega.{arith}
 use Rattle.terms.proofs.IndexLaws.{Searching}
 use Rattle.terms.proofs.row_index.repeated.Given as goal
 

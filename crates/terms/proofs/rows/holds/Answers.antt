@@ -1,6 +1,5 @@
 -- The words are compared one by one, the first operand first.
 use Rattle.terms.proofs.RowLaws.{holds_no, holds_rest}
-use borrow.Author.Rules.{rules}
 use Rattle.terms.proofs.rows.holds.Goals as goal
 
 pub returns-then-word-row : goal.returns-then-word-row

@@ -1,6 +1,5 @@
 -- The five words are the row's.
 use Rattle.terms.specs.Rows.{row_of}
-use borrow.Author.Rules.{rules}
 use Rattle.terms.proofs.rows.read_row.Goals as goal
 
 pub returns : goal.returns

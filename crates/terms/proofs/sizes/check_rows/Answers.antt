@@ -1,8 +1,6 @@
 use lib.Seq.{length-take-le}
 use mathlib.Core.Path.{◌∙◌, sym}
-use Prim.Native.Nat.{◌-◌}
 use native.Mathlib.Omega.{arith}
-use borrow.Author.Rules.{rules}
 use Rattle.terms.proofs.IndexLaws.{bucket_below, index_added}
 use Rattle.terms.proofs.CheckLaws.{checking_start, checking_fault, checking_next, checking_end}
 use Rattle.terms.proofs.sizes.check_rows.Goals as goal

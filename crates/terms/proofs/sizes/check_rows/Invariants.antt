@@ -1,7 +1,5 @@
 -- The invariant is that the check of the remaining rows answers for the whole, and that the rows before are indexed.
 use Prim.Native.Nat.{◌-◌}
-use native.Mathlib.Omega.{arith}
-use borrow.Author.Rules.{rules}
 use Rattle.terms.specs.RowIndex.{Indexed}
 use Rattle.terms.proofs.CheckLaws.{Checking}
 use Rattle.terms.proofs.sizes.check_rows.Given as goal

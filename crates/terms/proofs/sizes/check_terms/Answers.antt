@@ -1,6 +1,5 @@
 -- The index is empty at first.
 use Rattle.terms.proofs.IndexLaws.{index_start}
-use borrow.Author.Rules.{rules}
 use Rattle.terms.proofs.sizes.check_terms.Goals as goal
 
 pub check_rows-requires : goal.check_rows-requires

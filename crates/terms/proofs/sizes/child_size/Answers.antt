@@ -1,6 +1,5 @@
 -- A place beyond the children counts nothing.
 use native.Mathlib.Omega.{arith}
-use borrow.Author.Rules.{rules}
 use Rattle.terms.proofs.sizes.child_size.Goals as goal
 
 pub offset_bounds-sizes-child : goal.offset_bounds-sizes-child

@@ -1,6 +1,5 @@
 -- Each way out is one law on the test of a row.
 use Rattle.terms.proofs.RowLaws.{fits_low, fits_high, fits_rest}
-use borrow.Author.Rules.{rules}
 use Rattle.terms.proofs.sizes.fits.Goals as goal
 
 pub returns-then-tag-lt1 : goal.returns-then-tag-lt1

@@ -1,6 +1,5 @@
 -- Each way out is one law on the answer for a row.
 use Rattle.terms.proofs.CheckLaws.{fits_known, answer_5, answer_6, answer_7, answer_size}
-use borrow.Author.Rules.{rules}
 use Rattle.terms.proofs.sizes.row_answer.Goals as goal
 
 pub returns-then-repeated : goal.returns-then-repeated

@@ -2,7 +2,6 @@
 use native.Mathlib.Omega.{arith}
 use Rattle.terms.proofs.GoodRows.{row_word, fits_tag}
 use Rattle.terms.proofs.RowLaws.{child_known, size_is}
-use borrow.Author.Rules.{rules}
 use Rattle.terms.proofs.sizes.row_size.Goals as goal
 
 pub arity-count-requires : goal.arity-count-requires

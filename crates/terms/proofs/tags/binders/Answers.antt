@@ -2,7 +2,6 @@
 use native.Mathlib.Omega.{arith}
 use Rattle.terms.specs.Tag.{tag_of}
 use Rattle.terms.proofs.TagTables.{binder_rows, binders_entry, binders_most}
-use borrow.Author.Rules.{rules}
 use Rattle.terms.proofs.tags.binders.Goals as goal
 
 pub overflow_cast-result : goal.overflow_cast-result

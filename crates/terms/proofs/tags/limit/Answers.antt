@@ -1,6 +1,5 @@
 -- Each way out is one law on limits.
 use Rattle.terms.proofs.RowLaws.{limit_unused, limit_index, limit_level, limit-child}
-use borrow.Author.Rules.{rules}
 use Rattle.terms.proofs.tags.limit.Goals as goal
 
 pub returns-then-used-j : goal.returns-then-used-j
