@@ -1,3 +1,4 @@
+pub mod DigitLaws
 pub mod NumberLaws
 pub mod PartLaws
 pub mod PartedLaws

@@ -10,7 +10,7 @@ use lib.ListN.{length, get_or, take, drop, length-drop, drop_of_length-le}
 use lib.Seq.{drop-cons, drop-drop, length-take-le}
 use lib.Dec.{eqb}
 use borrow.Author.Tests.{eq-eqb, ne_eqb}
-use Rattle.io.specs.Counts.{IsPrefixLen}
+use Rattle.answers.specs.Counts.{IsPrefixLen}
 use Rattle.answers.specs.Parts.{up_to, past}
 
 -- what `place_of` ensures

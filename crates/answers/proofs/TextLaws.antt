@@ -11,8 +11,8 @@ use lib.Dec.{ltb}
 use lib.ListN.{length, get_or, take, drop, set, length-set, length-append, take-append-drop}
 use lib.Seq.{take-suc, take-suc-set, take_all, drop-drop, drop-set-lt, length-take-le}
 use borrow.Author.Tests.{ltb-true, ltb-false}
-use Rattle.io.specs.Counts.{IsPrefixLen}
-use Rattle.io.specs.Digits.{hex_digit_ascii, last_digits, IsDigitCount}
+use Rattle.answers.specs.Counts.{IsPrefixLen}
+use Rattle.answers.specs.Digits.{hex_digit_ascii, last_digits, IsDigitCount}
 use Rattle.answers.specs.Text.{places, decimal, field, end, ok_text, refused_text, answer_line, answer_lines}
 use Rattle.answers.specs.Text.{Put, AtStart}
 

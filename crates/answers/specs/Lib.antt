@@ -1,3 +1,5 @@
+pub mod Counts
+pub mod Digits
 pub mod Numbers
 pub mod Parts
 pub mod Dates

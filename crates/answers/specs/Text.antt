@@ -1,7 +1,7 @@
 -- Answers as lines of text: document 01, "The admitting program reads standard input and prints `ok` with T, C and L,
 -- or `refused` with number and place, fields parted by one space, then a newline."
 use Rattle.std.specs.Prelude.{◌≡◌, cond, List, [], ◌∷◌, ◌++◌, ℕ, zero, suc, ◌+◌, ◌/◌, ◌≤◌, ltb, length, take, drop}
-use Rattle.io.specs.Digits.{last_digits}
+use Rattle.answers.specs.Digits.{last_digits}
 use Rattle.sheets.specs.declared.admission.Admission.{Admission}
 use Rattle.sheets.specs.declared.admission.Admission.TheVariants.{Accepted, Refused}
 use Rattle.sheets.specs.declared.finding.Found.{Found}

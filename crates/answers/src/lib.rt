@@ -1,6 +1,11 @@
-// What the programs share: numbers, dates and lists of judgments in text, a sheet or a list read from a descriptor, the
-// text that is answered, and a new file.
+// What the programs share: arguments, numbers, dates and lists of judgments in text, a sheet or a list read from standard
+// input or a file, the text that is answered, and a new file.
+#![tactic(auto)]
+
+pub mod arguments;
 mod dates;
+mod digits;
+pub mod failures;
 pub mod input;
 mod lines;
 pub mod listing;

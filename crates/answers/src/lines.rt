@@ -1,10 +1,11 @@
 // Answers as lines of text.
 ghost use Rattle.std.specs.Prelude.{◌+◌, ◌*◌, ◌≤◌, length};
-ghost use Rattle.io.specs.Counts.{IsPrefixLen};
+ghost use Rattle.answers.specs.Counts.{IsPrefixLen};
 ghost use Rattle.answers.specs.Text.{field, ok_text, refused_text, admission_text, found_text, withdrawal_text};
 ghost use Rattle.answers.specs.Text.{conversion_text, normality_text, access_text, day_text, answer_line, answer_lines};
 ghost use Rattle.answers.specs.Text.{batch_text, Put, AtStart};
 
+use crate::digits::decimal;
 use sheets::admission::Admission;
 use sheets::batch::Batch;
 use sheets::conversion::Conversion;
@@ -33,7 +34,7 @@ fn put_number(out: &mut [u8], at: usize, number: usize) -> usize
     ensures { Put out.old at (field number) out.new result × (result ≤ at + 21) }
 {
     let mut digits = [0u8; 20];
-    let count = io::decimal(number as u64, &mut digits);
+    let count = decimal(number as u64, &mut digits);
     let after = put(out, at, b" ");
     put(out, after, &digits[..count])
 }
@@ -154,7 +155,7 @@ fn put_answer(out: &mut [u8], at: usize, number: u16) -> usize
     ensures { Put out.old at (answer_line number) out.new result × (result ≤ at + 21) }
 {
     let mut digits = [0u8; 20];
-    let count = io::decimal(number as u64, &mut digits);
+    let count = decimal(number as u64, &mut digits);
     let after = put(out, at, &digits[..count]);
     put(out, after, b"\n")
 }

@@ -1,6 +1,6 @@
 // Texts parted by a byte.
 ghost use Rattle.std.specs.Prelude.{◌≡◌, ◌+◌, ◌≤◌, min, length, drop};
-ghost use Rattle.io.specs.Counts.{IsPrefixLen};
+ghost use Rattle.answers.specs.Counts.{IsPrefixLen};
 ghost use Rattle.answers.specs.Parts.{up_to};
 
 // The first place of `byte` from `from` on, or the end of the text.

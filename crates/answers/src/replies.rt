@@ -1,7 +1,7 @@
 // The line of text that is answered: every byte of it follows from what is asked and, where a sheet is asked about,
 // from its bytes. A work buffer of 3,072 words serves every sheet.
 ghost use Rattle.std.specs.Prelude.{◌≡◌, length};
-ghost use Rattle.io.specs.Counts.{IsPrefixLen};
+ghost use Rattle.answers.specs.Counts.{IsPrefixLen};
 ghost use Rattle.sheets.specs.Admission.{admit_of};
 ghost use Rattle.sheets.specs.Finding.{find_of};
 ghost use Rattle.sheets.specs.Batch.{wanted_in, batch_of, search_answers};

@@ -35,6 +35,6 @@ unfolding member? before
 distinct d [] = []
 distinct d (x ∷ l) = before (member? d x l) (distinct d l)
 
--- the list has at most n different elements; law at-most-is: some list of at most n elements has them all
+-- the list has at most n different elements; law at_most_is: some list of at most n elements has them all
 abbrev pub AtMost : {A : Type 0} → Discrete A → ℕ → List A → Type 0
 AtMost d n l = length (distinct d l) ≤ n

@@ -1,52 +1,54 @@
 // Finds the line of the sheet on standard input that has the five numbers of the arguments, and prints `ok` with the
 // line or `refused` with number and place.
+#![tactic(auto)]
+
+use answers::arguments::{argument_count, put_argument};
 use answers::input::read_sheet;
 use answers::numbers::{Field, Request, field_of, read_number, request_of};
 use answers::replies::search_reply;
-use libc::{STDERR_FILENO, STDIN_FILENO, STDOUT_FILENO};
 use sheets::finding::Wanted;
+use std::io;
+use std::rt::Env;
 
 // The number that argument `i` spells. One that is missing or too long counts as empty.
-fn argument(i: usize) -> Field {
+fn argument(rt: &impl Env, i: usize) -> Field {
     let mut text = [0u8; 32];
-    let length = os::arg(i, &mut text);
+    let length = put_argument(rt, i, &mut text);
     field_of(read_number(&text[..length]))
 }
 
 // What the arguments ask for. The program's own name is one of them.
-fn request() -> Request {
-    if os::arg_count() != 6 {
+fn request(rt: &impl Env) -> Request {
+    if argument_count(rt) != 6 {
         return Request::Unreadable;
     }
     request_of(
-        argument(1),
-        argument(2),
-        argument(3),
-        argument(4),
-        argument(5),
+        argument(rt, 1),
+        argument(rt, 2),
+        argument(rt, 3),
+        argument(rt, 4),
+        argument(rt, 5),
     )
 }
 
 // Searches the sheet on standard input.
-fn find_input(wanted: Wanted) {
+fn find_input(rt: &(impl Input + Print + Eprint), wanted: Wanted) -> io::Result<()> {
     let mut sheet = [0u8; 52241];
-    let input = read_sheet(STDIN_FILENO, &mut sheet);
+    let input = read_sheet(rt, &mut rt.reader(), &mut sheet);
     let length = input.length;
     if input.whole {
         let mut text = [0u8; 80];
         let count = search_reply(&sheet[..length], wanted, &mut text);
-        io::write_all(STDOUT_FILENO, &text[..count]);
+        rt.write_all(&text[..count])?;
     }
+    Ok(())
 }
 
-fn main() {
-    match request() {
-        Request::Judgment(wanted) => find_input(wanted),
-        Request::Unreadable => {
-            io::write_all(
-                STDERR_FILENO,
-                b"usage: find FORM CONTEXT S1 S2 S3 < SHEET, five numbers below 4294967296\n",
-            );
-        }
+fn main(rt: HostRuntime) -> io::Result<()> {
+    match request(&rt) {
+        Request::Judgment(wanted) => find_input(&rt, wanted),
+        Request::Unreadable => rt.eprintln(
+            "usage: find FORM CONTEXT S1 S2 S3 < SHEET, five numbers below 4294967296",
+        ),
     }
 }

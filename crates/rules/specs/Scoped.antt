@@ -6,7 +6,7 @@ use Rattle.terms.specs.Lists.{All}
 use Rattle.rules.specs.Judgment.{Context, Judgment, context_of}
 use Rattle.rules.specs.Subjects.{subjects}
 
--- "only types whose free indices lie within the entries before them"; law scoped-is: entry by entry
+-- "only types whose free indices lie within the entries before them"; law scoped_is: entry by entry
 unfoldable pub Scoped : Context → Type 0
 Scoped [] = Unit {0}
 Scoped (A ∷ G) = FreeBelow (length G) A × Scoped G

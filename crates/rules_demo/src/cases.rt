@@ -9,6 +9,7 @@ ghost use Rattle.rules_demo.specs.Cases.{case_judgment, Tables, Case, Answered};
 use rules::instances::{is_cited_instance, is_instance};
 use rules::judgments::{LineJudgment, last_context, subject_use};
 use rules::table::{cites_motive, conclusion_form, is_rule};
+use std::io;
 use terms::words::word_at;
 
 // Forms count from 0.
@@ -119,26 +120,18 @@ fn answer_to(
     Answer::NoCase
 }
 
-fn write_line(rule: usize, number: usize, answer: Answer) {
-    io::write_all(1, b"rule ");
-    io::print_decimal(1, rule as u64);
-    io::write_all(1, b" case ");
-    io::print_decimal(1, number as u64);
+fn write_line(rt: &impl Print, rule: usize, number: usize, answer: Answer) -> io::Result<()> {
+    print!(rt; "rule {rule} case {number}")?;
     match answer {
-        Answer::Instance => {
-            io::write_all(1, b": instance\n");
-        }
-        Answer::Refused => {
-            io::write_all(1, b": no instance\n");
-        }
-        Answer::NoCase => {
-            io::write_all(1, b": no case\n");
-        }
+        Answer::Instance => rt.write_all(b": instance\n"),
+        Answer::Refused => rt.write_all(b": no instance\n"),
+        Answer::NoCase => rt.write_all(b": no case\n"),
     }
 }
 
 // Runs case `number`.
 fn run(
+    rt: &impl Print,
     table: &[u8; 690],
     terms: &[u8],
     t: usize,
@@ -146,7 +139,7 @@ fn run(
     n: usize,
     cases: &[u8],
     number: usize,
-)
+) -> io::Result<()>
     requires table_value { table.now ≡ rule_table }
     requires tables { Tables terms.now t contexts.now n × (52 * number + 52 ≤ length cases.now) }
 {
@@ -157,14 +150,16 @@ fn run(
     let r = judgment_at(cases, number, 3);
     let s = judgment_at(cases, number, 4);
     write_line(
+        rt,
         rule,
         number,
         answer_to(table, terms, t, contexts, n, rule, c, p, q, r, s),
-    );
+    )
 }
 
 // Runs so many cases.
 pub fn run_all(
+    rt: &impl Print,
     table: &[u8; 690],
     terms: &[u8],
     t: usize,
@@ -172,13 +167,14 @@ pub fn run_all(
     n: usize,
     cases: &[u8],
     many: usize,
-)
+) -> io::Result<()>
     requires table_value { table.now ≡ rule_table }
     requires tables { Tables terms.now t contexts.now n × (52 * many ≤ length cases.now) }
 {
     let mut number = 0;
     while number < many {
-        run(table, terms, t, contexts, n, cases, number);
+        run(rt, table, terms, t, contexts, n, cases, number)?;
         number += 1;
     }
+    Ok(())
 }

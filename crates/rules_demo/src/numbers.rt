@@ -3,8 +3,12 @@ ghost use Rattle.std.specs.Prelude.{◌≡◌, [], ◌∷◌, ◌*◌, ◌<◌, 
 ghost use Rattle.rules_demo.specs.Numbers.{place_behind, next_place, ended, numbers_in};
 ghost use Rattle.rules_demo.specs.WordBuffer.{WordsPut};
 
+use answers::failures::fail;
+use answers::input::{open_input, read_whole};
+use std::rt::Files;
+
 // Where a text's reader stands.
-#[derive(Drop)]
+#[derive(Clone, Copy)]
 pub enum Place {
     Blank,
     Comment,
@@ -90,16 +94,17 @@ fn put_all(text: &[u8], out: &mut [u8]) -> usize
 }
 
 // Puts the numbers of a file. No contract can say what is read, so that only the room is promised.
-pub fn load(path: &[u8], out: &mut [u8]) -> usize
+pub fn load(rt: &(impl Files + Eprint), path: &[u8], out: &mut [u8]) -> usize
     ensures { 2 * result ≤ length out.new }
 {
-    let mut text = io::large_buffer();
-    let file = os::open_read(path);
-    if file < 0 {
-        os::fail(path);
-        return 0;
-    }
-    let n = io::read_full(file, &mut text);
-    libc::close(file);
+    let mut text = [0u8; 65536];
+    let mut file = match open_input(rt, path) {
+        Ok(file) => file,
+        Err(error) => {
+            fail(rt, path, error);
+            return 0;
+        }
+    };
+    let n = read_whole(rt, &mut file, &mut text, path).length;
     put_all(&text[..n], out)
 }

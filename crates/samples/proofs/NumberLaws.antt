@@ -7,7 +7,7 @@ use native.Mathlib.Decide.{ℕ_discrete}
 use native.Mathlib.Omega.{arith}
 use lib.ListN.{length, get_or, set, length-set}
 use lib.Seq.{get_or-set_same, get_or-set_other, length-take-le}
-use Rattle.io.specs.Counts.{IsPrefixLen}
+use Rattle.answers.specs.Counts.{IsPrefixLen}
 use Rattle.answers.specs.declared.numbers.Reading.TheVariants.{Number, Unreadable}
 use Rattle.answers.specs.Numbers.{read_number}
 use Rattle.samples.specs.Text.{word_of, NumbersFrom}

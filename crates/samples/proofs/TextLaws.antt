@@ -6,7 +6,7 @@ use Prim.Native.Nat.{ℕ, suc, ◌+◌, ◌-◌, ◌≤◌, ◌<◌, min}
 use native.Mathlib.Omega.{arith}
 use lib.ListN.{length, take, drop}
 use lib.Seq.{length-take-le}
-use Rattle.io.specs.Counts.{IsPrefixLen}
+use Rattle.answers.specs.Counts.{IsPrefixLen}
 use Rattle.answers.specs.Parts.{up_to}
 use Rattle.answers.proofs.PartLaws.{part_is, rest_is}
 use Rattle.samples.specs.Text.{word_of, behind_lines}

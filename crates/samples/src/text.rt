@@ -1,6 +1,6 @@
 // The lines of a list, and their words, parted by single spaces.
 ghost use Rattle.std.specs.Prelude.{◌≡◌, ◌↔◌, true, ◌≤◌, length, drop};
-ghost use Rattle.io.specs.Counts.{IsPrefixLen};
+ghost use Rattle.answers.specs.Counts.{IsPrefixLen};
 ghost use Rattle.answers.specs.Numbers.{read_number};
 ghost use Rattle.samples.specs.Text.{word_of, behind_lines, length_of, NumbersFrom};
 

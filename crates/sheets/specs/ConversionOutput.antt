@@ -1,4 +1,4 @@
--- What a conversion leaves in the output, stated by index: document 02, A11. Laws conversion-left, conversion-only: it
+-- What a conversion leaves in the output, stated by index: document 02, A11. Laws conversion_left, conversion_only: it
 -- is just this.
 use Rattle.std.specs.Prelude.{◌≡◌, List, ℕ, suc, ◌+◌, ◌*◌, ◌≤◌, ◌<◌, length, get_or, take}
 use Rattle.terms.specs.Words.{word_at}

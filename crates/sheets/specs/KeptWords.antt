@@ -1,5 +1,5 @@
 -- The words of a sheet without some of its lines, each by its place, from two arrays: how many of these lines are below
--- each line, and the numbers of the others. Only the writer goes by these; law kept-written: for the arrays of a set
+-- each line, and the numbers of the others. Only the writer goes by these; law kept_written: for the arrays of a set
 -- they are the words of the sheet that is left when the lines are withdrawn one by one.
 use Rattle.std.specs.Prelude.{true, false, List, [], ◌∷◌, ℕ, ◌+◌, ◌-◌, ◌*◌, ◌/◌, ◌%◌, ◌≤◌, ◌<◌, ltb, length, get_or}
 use Rattle.terms.specs.Words.{word_at}

@@ -1,5 +1,5 @@
 -- The listed lines among a line's premises, where an array holds how many listed numbers are below each number: a
--- number is listed if more are below the next. Only the search for number 12 goes by these; law found-use: what it
+-- number is listed if more are below the next. Only the search for number 12 goes by these; law found_use: what it
 -- finds is what `kept_use` says.
 use Rattle.std.specs.Prelude.{Bool, true, false, ◌&&◌, List, ℕ, ◌+◌, ltb, get_or}
 use Rattle.rules.specs.RuleTable.{premise_count}

@@ -1,6 +1,6 @@
 -- What a withdrawal leaves in the output, stated by index: document 01, "Withdrawal of line n writes the sheet without
 -- that line, premises above n lowered by 1, L and the distances lowered; output beyond the new length is untouched, and
--- so is all output on any refusal." Laws output-left, output-only: it is just this.
+-- so is all output on any refusal." Laws output_left, output_only: it is just this.
 use Rattle.std.specs.Prelude.{◌≡◌, List, ℕ, suc, ◌+◌, ◌-◌, ◌*◌, ◌≤◌, ◌<◌, length, get_or, take}
 use Rattle.terms.specs.Words.{word_at}
 use Rattle.sheets.specs.declared.withdrawal.Withdrawal.{Withdrawal}

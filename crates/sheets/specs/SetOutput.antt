@@ -1,5 +1,5 @@
--- What a withdrawal of a set leaves in the output, stated by index: document 02, A6. Laws set-output-left,
--- set-output-only: it is just this.
+-- What a withdrawal of a set leaves in the output, stated by index: document 02, A6. Laws set_output_left,
+-- set_output_only: it is just this.
 use Rattle.std.specs.Prelude.{◌≡◌, List, ℕ, ◌+◌, ◌-◌, ◌*◌, ◌≤◌, ◌<◌, length, get_or, take}
 use Rattle.terms.specs.Words.{word_at}
 use Rattle.sheets.specs.declared.withdrawal.Withdrawal.{Withdrawal}

@@ -1,6 +1,6 @@
 -- Withdrawal of a set by single withdrawals: document 02, A6, "The outcome is what single withdrawals would give, taken
 -- from the highest number down, with an output of enough length at each; an empty set gives the sheet itself." Laws
--- by-singles, sheet-by-singles: so it is, for an accepted sheet, a list that rises, a work buffer of T words or more,
+-- by_singles, sheet_by_singles: so it is, for an accepted sheet, a list that rises, a work buffer of T words or more,
 -- and an output of 52,240 bytes or more at each.
 use Rattle.std.specs.Prelude.{true, false, List, [], ◌∷◌, ℕ, ltb, length, take}
 use Rattle.sheets.specs.declared.withdrawal.Withdrawal.{Withdrawal}

@@ -10,7 +10,7 @@ pub data FreeIn : ℕ → Term → Type 0 where
   deeper : {i : ℕ} {t : Term} (j : ℕ) → 1 ≤ j → j ≤ arity (tag_in t)
       → FreeIn (under (binders (tag_in t) j) i) (child t j) → FreeIn i t
 
--- every free index of the term is below n; law free-below-is says so by FreeIn
+-- every free index of the term is below n; law free_below_is says so by FreeIn
 unfoldable pub FreeBelow : ℕ → Term → Type 0
 FreeBelow n (var i) = i < n
 FreeBelow n (univ l) = Unit {0}

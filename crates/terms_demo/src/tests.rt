@@ -8,12 +8,13 @@ ghost use Rattle.terms.specs.Substitution.{substitute};
 ghost use Rattle.terms.specs.Table.{TermTable, RowsInTable};
 
 use crate::writing::{write_answers, write_numbers};
+use std::io;
 use terms::images::{Subst, is_shifted, is_substituted};
 use terms::nodes::{Node, child, is_node, number, same_term};
 use terms::normal::is_normal;
 
 // Each constructor, with a row that spells it: all yes.
-pub fn nodes(rows: &[u8])
+pub fn nodes(rt: &impl Print, rows: &[u8]) -> io::Result<()>
     requires { TermTable rows.now 43 }
 {
     let answers = [
@@ -31,11 +32,11 @@ pub fn nodes(rows: &[u8])
         is_node(rows, 20, Node::Succ(4)),
         is_node(rows, 29, Node::Ind(4, 3, 4, 28)),
     ];
-    write_answers(b"node", &answers);
+    write_answers(rt, b"node", &answers)
 }
 
 // Each constructor, with a row that spells another head or other children: all no.
-pub fn other_nodes(rows: &[u8])
+pub fn other_nodes(rt: &impl Print, rows: &[u8]) -> io::Result<()>
     requires { TermTable rows.now 43 }
 {
     let answers = [
@@ -65,11 +66,11 @@ pub fn other_nodes(rows: &[u8])
         // another third child
         is_node(rows, 29, Node::Ind(4, 3, 3, 28)),
     ];
-    write_answers(b"other node", &answers);
+    write_answers(rt, b"other node", &answers)
 }
 
 // The rows of children; a term with no child at a place stands for itself.
-pub fn children(rows: &[u8])
+pub fn children(rt: &impl Print, rows: &[u8]) -> io::Result<()>
     requires { TermTable rows.now 43 }
 {
     let values = [
@@ -86,11 +87,11 @@ pub fn children(rows: &[u8])
         // Nat has no child: 0
         child(rows, 0, 1),
     ];
-    write_numbers(b"child", &values);
+    write_numbers(rt, b"child", &values)
 }
 
 // Indices and levels: 4 and 3; Nat and ind have none: 0, 0.
-pub fn numbers(rows: &[u8])
+pub fn numbers(rt: &impl Print, rows: &[u8]) -> io::Result<()>
     requires { TermTable rows.now 43 }
 {
     let values = [
@@ -99,11 +100,11 @@ pub fn numbers(rows: &[u8])
         number(rows, 0),
         number(rows, 29),
     ];
-    write_numbers(b"number", &values);
+    write_numbers(rt, b"number", &values)
 }
 
 // Equal terms have one row: yes, and no for any two rows.
-pub fn equal_terms(rows: &[u8])
+pub fn equal_terms(rt: &impl Print, rows: &[u8]) -> io::Result<()>
     requires { TermTable rows.now 43 }
 {
     let answers = [
@@ -111,11 +112,11 @@ pub fn equal_terms(rows: &[u8])
         same_term(rows, 9, 10),
         same_term(rows, 29, 36),
     ];
-    write_answers(b"same", &answers);
+    write_answers(rt, b"same", &answers)
 }
 
 // Normal terms.
-pub fn normal_terms(rows: &[u8])
+pub fn normal_terms(rt: &impl Print, rows: &[u8]) -> io::Result<()>
     requires { TermTable rows.now 43 }
 {
     let answers = [
@@ -135,11 +136,11 @@ pub fn normal_terms(rows: &[u8])
         is_normal(rows, 29),
         is_normal(rows, 32),
     ];
-    write_answers(b"normal", &answers);
+    write_answers(rt, b"normal", &answers)
 }
 
 // Raised terms.
-pub fn shifts(rows: &[u8])
+pub fn shifts(rt: &impl Print, rows: &[u8]) -> io::Result<()>
     requires { TermTable rows.now 43 }
 {
     let answers = [
@@ -156,11 +157,11 @@ pub fn shifts(rows: &[u8])
         is_shifted(rows, 0, 1, 9, 10),
         is_shifted(rows, 0, 1, 9, 9),
     ];
-    write_answers(b"shift", &answers);
+    write_answers(rt, b"shift", &answers)
 }
 
 // Raised terms with several children.
-pub fn deep_shifts(rows: &[u8])
+pub fn deep_shifts(rt: &impl Print, rows: &[u8]) -> io::Result<()>
     requires { TermTable rows.now 43 }
 {
     let answers = [
@@ -179,11 +180,11 @@ pub fn deep_shifts(rows: &[u8])
         is_shifted(rows, 0, 1, 1, 1),
         is_shifted(rows, 0, 1, 1, 42),
     ];
-    write_answers(b"deep shift", &answers);
+    write_answers(rt, b"deep shift", &answers)
 }
 
 // A row put for index 0.
-pub fn substituted_rows(rows: &[u8])
+pub fn substituted_rows(rt: &impl Print, rows: &[u8]) -> io::Result<()>
     requires { TermTable rows.now 43 }
 {
     let answers = [
@@ -199,11 +200,11 @@ pub fn substituted_rows(rows: &[u8])
         is_substituted(rows, 1, Subst::Row(9), 3, 10),
         is_substituted(rows, 1, Subst::Row(9), 3, 9),
     ];
-    write_answers(b"row put", &answers);
+    write_answers(rt, b"row put", &answers)
 }
 
 // A row put for index 0 under the binder of a Sigma.
-pub fn substituted_rows_under(rows: &[u8])
+pub fn substituted_rows_under(rt: &impl Print, rows: &[u8]) -> io::Result<()>
     requires { TermTable rows.now 43 }
 {
     let answers = [
@@ -219,11 +220,11 @@ pub fn substituted_rows_under(rows: &[u8])
         is_substituted(rows, 0, Subst::Row(3), 15, 15),
         is_substituted(rows, 0, Subst::Row(3), 15, 16),
     ];
-    write_answers(b"row put under a binder", &answers);
+    write_answers(rt, b"row put under a binder", &answers)
 }
 
 // zero, and first of a row, put for index 0.
-pub fn substituted_described(rows: &[u8])
+pub fn substituted_described(rt: &impl Print, rows: &[u8]) -> io::Result<()>
     requires { TermTable rows.now 43 }
 {
     let answers = [
@@ -242,11 +243,11 @@ pub fn substituted_described(rows: &[u8])
         // Sigma(Nat, v1)[first(v1)] is Sigma(Nat, first(v2)): no
         is_substituted(rows, 0, Subst::First(3), 14, 19),
     ];
-    write_answers(b"zero or first put", &answers);
+    write_answers(rt, b"zero or first put", &answers)
 }
 
 // succ of the outer variable for index 0, the others raised by 1.
-pub fn substituted_outer_succ(rows: &[u8])
+pub fn substituted_outer_succ(rt: &impl Print, rows: &[u8]) -> io::Result<()>
     requires { TermTable rows.now 43 }
 {
     let answers = [
@@ -263,7 +264,7 @@ pub fn substituted_outer_succ(rows: &[u8])
         is_substituted(rows, 0, Subst::OuterSucc, 8, 8),
         is_substituted(rows, 0, Subst::OuterSucc, 8, 9),
     ];
-    write_answers(b"succ put", &answers);
+    write_answers(rt, b"succ put", &answers)
 }
 
 // Does row `u` spell row `t` with ind(p, a, b, c) for index 0, a for index 1, and the others lowered by 2?
@@ -275,7 +276,7 @@ fn is_both(rows: &[u8], p: usize, a: usize, b: usize, c: usize, t: usize, u: usi
 }
 
 // E-INDSUC: ind(P, a, b, c) for y and a for x, together.
-pub fn substituted_both(rows: &[u8])
+pub fn substituted_both(rt: &impl Print, rows: &[u8]) -> io::Result<()>
     requires { TermTable rows.now 43 }
 {
     let answers = [
@@ -297,11 +298,11 @@ pub fn substituted_both(rows: &[u8])
         is_both(rows, 12, 2, 2, 26, 9, 41),
         is_both(rows, 13, 2, 2, 26, 9, 41),
     ];
-    write_answers(b"both put", &answers);
+    write_answers(rt, b"both put", &answers)
 }
 
 // `tables::BARE` has no zero, first, succ or ind: where index 0 occurs, no row spells the result.
-pub fn substituted_without_rows(rows: &[u8])
+pub fn substituted_without_rows(rt: &impl Print, rows: &[u8]) -> io::Result<()>
     requires { TermTable rows.now 6 }
 {
     let answers = [
@@ -321,5 +322,5 @@ pub fn substituted_without_rows(rows: &[u8])
         is_both(rows, 0, 1, 0, 2, 2, 1),
         is_both(rows, 0, 1, 0, 2, 1, 1),
     ];
-    write_answers(b"put without a row", &answers);
+    write_answers(rt, b"put without a row", &answers)
 }

@@ -1,57 +1,51 @@
 // What the program writes.
-ghost use Rattle.std.specs.Prelude.{◌≡◌, ◌*◌, ◌≤◌, length};
+ghost use Rattle.std.specs.Prelude.{◌≡◌, ◌*◌, ◌≤◌, length, IfOk};
 ghost use Rattle.terms.specs.Sizes.{check_terms};
 ghost use Rattle.terms.specs.Buffers.{over};
 
+use std::io;
 use terms::sizes::{TermsAnswer, check_terms};
 
 // `NAME N: yes` or `NAME N: no` for each answer, N from 1.
-pub fn write_answers(name: &[u8], answers: &[bool]) {
+pub fn write_answers(rt: &impl Print, name: &[u8], answers: &[bool]) -> io::Result<()> {
     let mut i = 0;
     while i < answers.len() {
         let yes = answers[i];
         i += 1;
-        write_numbered(name, i);
+        write_numbered(rt, name, i)?;
         if yes {
-            io::write_all(1, b"yes\n");
+            rt.write_all(b"yes\n")?;
         } else {
-            io::write_all(1, b"no\n");
+            rt.write_all(b"no\n")?;
         }
     }
+    Ok(())
 }
 
 // `NAME N: VALUE` for each number, N from 1.
-pub fn write_numbers(name: &[u8], numbers: &[usize]) {
+pub fn write_numbers(rt: &impl Print, name: &[u8], numbers: &[usize]) -> io::Result<()> {
     let mut i = 0;
     while i < numbers.len() {
         let value = numbers[i];
         i += 1;
-        write_numbered(name, i);
-        io::print_decimal(1, value as u64);
-        io::write_all(1, b"\n");
+        write_numbered(rt, name, i)?;
+        println!(rt; "{value}")?;
     }
+    Ok(())
 }
 
-fn write_numbered(name: &[u8], n: usize) {
-    io::write_all(1, name);
-    io::write_all(1, b" ");
-    io::print_decimal(1, n as u64);
-    io::write_all(1, b": ");
+fn write_numbered(rt: &impl Print, name: &[u8], n: usize) -> io::Result<()> {
+    rt.write_all(name)?;
+    print!(rt; " {n}: ")
 }
 
 // `sound`, or a fault's number and place.
-fn write_answer(answer: TermsAnswer) {
+fn write_answer(rt: &impl Print, answer: TermsAnswer) -> io::Result<()> {
     match answer {
-        TermsAnswer::NoFault => {
-            io::write_all(1, b"sound");
-        }
-        TermsAnswer::Faulty { number, place } => {
-            io::print_decimal(1, number as u64);
-            io::write_all(1, b" ");
-            io::print_decimal(1, place as u64);
-        }
+        TermsAnswer::NoFault => rt.write_all(b"sound")?,
+        TermsAnswer::Faulty { number, place } => print!(rt; "{number} {place}")?,
     }
-    io::write_all(1, b"\nsizes");
+    rt.write_all(b"\nsizes")
 }
 
 fn wide(size: u32) -> u64
@@ -61,24 +55,27 @@ fn wide(size: u32) -> u64
 }
 
 // Every word of the work buffer.
-fn write_sizes(work: &[u32]) {
-    let mut i = 0;
-    while i < work.len() {
-        io::write_all(1, b" ");
-        io::print_decimal(1, wide(work[i]));
-        i += 1;
+fn write_sizes(rt: &impl Print, work: &[u32]) -> io::Result<()> {
+    for word in work {
+        let size = wide(*word);
+        print!(rt; " {size}")?;
     }
-    io::write_all(1, b"\n");
+    rt.write_all(b"\n")
 }
 
 // Checks the first `count` rows, and writes the answer and the work buffer that the check leaves.
-pub fn checked(rows: &[u8], count: usize, work: &mut [u32]) -> TermsAnswer
+pub fn checked(
+    rt: &impl Print,
+    rows: &[u8],
+    count: usize,
+    work: &mut [u32],
+) -> io::Result<TermsAnswer>
     requires { (10 * count ≤ length rows.now) × (count ≤ 3072) × (count ≤ length work.old) }
-    ensures answer { result ≡ (check_terms rows.now count).answer }
+    ensures answer { IfOk result (λ answer. answer ≡ (check_terms rows.now count).answer) }
     ensures sizes { work.new ≡ over (check_terms rows.now count).sizes work.old }
 {
     let answer = check_terms(rows, count, work);
-    write_answer(answer);
-    write_sizes(work);
-    answer
+    write_answer(rt, answer)?;
+    write_sizes(rt, work)?;
+    Ok(answer)
 }

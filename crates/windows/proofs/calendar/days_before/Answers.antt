@@ -1,7 +1,6 @@
 use native.Mathlib.Omega.{arith}
 use Rattle.windows.specs.Dates.{day_number}
 use Rattle.windows.proofs.CalendarLaws.{month_most}
-use borrow.Author.Rules.{rules}
 use Rattle.windows.proofs.calendar.days_before.Goals as goal
 
 pub overflow_add-result-2 : goal.overflow_add-result-2

@@ -1,6 +1,5 @@
 use native.Mathlib.Omega.{arith}
 use Rattle.windows.proofs.CalendarLaws.{before, before_most, days_before_month_is}
-use borrow.Author.Rules.{rules}
 use Rattle.windows.proofs.calendar.days_before_month.Goals as goal
 
 pub overflow_cast-days : goal.overflow_cast-days

@@ -1,6 +1,5 @@
 use native.Mathlib.Omega.{arith}
 use Rattle.windows.proofs.CalendarLaws.{year_closed}
-use borrow.Author.Rules.{rules}
 use Rattle.windows.proofs.calendar.days_before_year.Goals as goal
 
 pub returns : goal.returns

@@ -1,6 +1,5 @@
 use native.Mathlib.Omega.{arith}
 use Rattle.windows.proofs.CalendarLaws.{lengths, length_most, no_month, month_length_is}
-use borrow.Author.Rules.{rules}
 use Rattle.windows.proofs.calendar.month_length.Goals as goal
 
 pub returns-then-month-gt12 : goal.returns-then-month-gt12

@@ -1,7 +1,5 @@
-use borrow.Author.Tests.{not-true, not-false}
 use Rattle.windows.specs.Access.{AllExist}
 use Rattle.windows.proofs.AccessLaws.{all_exist_lem, tested, refuses, ends_early, answers}
-use borrow.Author.Rules.{rules}
 use Rattle.windows.proofs.access.Window.open_on.Goals.{Else-not-exists}
 use Rattle.windows.proofs.access.Window.open_on.Goals as goal
 

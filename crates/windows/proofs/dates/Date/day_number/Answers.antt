@@ -1,7 +1,6 @@
 use mathlib.Core.Path.{sym, ◌∙◌}
 use Rattle.windows.specs.Dates.{day_number_of}
 use Rattle.windows.proofs.DateLaws.{exists_is}
-use borrow.Author.Rules.{rules}
 use Rattle.windows.proofs.dates.Date.day_number.Goals as goal
 
 pub days_before-requires : goal.days_before-requires

@@ -1,5 +1,4 @@
 use Rattle.windows.specs.Dates.{exists}
-use borrow.Author.Rules.{rules}
 use Rattle.windows.proofs.dates.Date.exists.Goals as goal
 
 pub returns : goal.returns
