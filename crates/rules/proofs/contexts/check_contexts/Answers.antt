@@ -1,8 +1,6 @@
 use mathlib.Core.Path.{refl, sym, ◌∙◌, ap}
 use mathlib.Core.Bool.{not}
-use Prim.Native.Nat.{◌-◌}
 use native.Mathlib.Omega.{arith}
-use borrow.Author.Rules.{rules}
 use Rattle.terms.proofs.SearchLaws.{looking_start, looking_here, looking_next, looking_end}
 use Rattle.rules.specs.Contexts.{check_contexts}
 use Rattle.rules.proofs.contexts.check_contexts.Goals as goal

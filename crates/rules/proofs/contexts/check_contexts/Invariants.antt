@@ -1,8 +1,6 @@
 -- The invariant is that the check of the rows ahead answers for the whole.
 use mathlib.Core.Bool.{not}
 use Prim.Native.Nat.{suc, ◌-◌, ◌≤◌}
-use native.Mathlib.Omega.{arith}
-use borrow.Author.Rules.{rules}
 use Rattle.terms.proofs.SearchLaws.{Looking}
 use Rattle.rules.specs.Contexts.{right_context, check_contexts}
 use Rattle.rules.specs.declared.contexts.ContextsAnswer.TheVariants.{NoFault, Faulty}

@@ -1,10 +1,8 @@
 use mathlib.Core.Path.{sym, ◌∙◌, ap}
-use mathlib.Core.List.{[]}
 use Prim.Native.Nat.{◌-◌}
 use Rattle.rules.specs.Contexts.{entry_of}
 use Rattle.rules.proofs.ContextTableEntries.{parent_numbered, found_further, found_none, goes_on, found_end}
 use native.Mathlib.Omega.{arith}
-use borrow.Author.Rules.{rules}
 use Rattle.rules.proofs.contexts.entry.Goals as goal
 
 pub returns-then-x-eq0 : goal.returns-then-x-eq0

@@ -1,10 +1,7 @@
 -- What is looked for from here on is what was asked.
 use mathlib.Core.Path.{◌≡◌}
 use mathlib.Core.List.{[], ◌∷◌}
-use Prim.Native.Nat.{◌-◌}
 use Rattle.rules.specs.Contexts.{NumberedContexts, entry_of}
-use native.Mathlib.Omega.{arith}
-use borrow.Author.Rules.{rules}
 use Rattle.rules.proofs.contexts.entry.Given as goal
 
 abbrev pub invariant-loop-at : goal.invariant-loop-at

@@ -1,5 +1,4 @@
 use Rattle.rules.proofs.ContextTableAnswers.{empty_says, extends_says}
-use borrow.Author.Rules.{rules}
 use Rattle.rules.proofs.contexts.extends.Goals as goal
 
 pub returns-then-n-eq0 : goal.returns-then-n-eq0

@@ -1,5 +1,4 @@
 use Rattle.rules.specs.Contexts.{holds_context}
-use borrow.Author.Rules.{rules}
 use Rattle.rules.proofs.contexts.holds.Goals as goal
 
 pub returns : goal.returns

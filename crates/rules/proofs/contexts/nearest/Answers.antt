@@ -1,7 +1,6 @@
 use mathlib.Core.Path.{refl, ◌∙◌, ap}
 use Rattle.rules.specs.declared.contexts.FoundEntry.TheVariants.{At}
 use Rattle.rules.proofs.ContextTableEntries.{found_here, found_none}
-use borrow.Author.Rules.{rules}
 use Rattle.rules.proofs.contexts.nearest.Goals as goal
 
 pub returns-then-n-eq0 : goal.returns-then-n-eq0

@@ -1,6 +1,4 @@
 use mathlib.Core.Path.{refl, sym, ◌∙◌, ap}
-use mathlib.Core.Bool.{false}
-use Prim.Native.Nat.{◌-◌}
 use Rattle.rules.specs.Contexts.{repeated_within}
 use Rattle.rules.proofs.ContextTableCheckLaws.{some_repeated}
 use Rattle.rules.proofs.ContextTableAnswers.{repeated_next}

@@ -1,5 +1,4 @@
 use Rattle.rules.proofs.ContextTableAnswers.{right_no, right_rest}
-use borrow.Author.Rules.{rules}
 use Rattle.rules.proofs.contexts.right.Goals as goal
 
 pub returns-then-above-n : goal.returns-then-above-n

@@ -2,7 +2,6 @@ use mathlib.Core.Path.{sym, ◌∙◌}
 use native.Mathlib.Omega.{arith}
 use Rattle.terms.proofs.Tests.{refuted}
 use Rattle.rules.proofs.EditionLaws.{says_motive, row_motive, row_own, row_refused}
-use borrow.Author.Rules.{rules}
 use Rattle.rules.proofs.editions.row_in.Goals as goal
 
 pub overflow_add-result : goal.overflow_add-result

@@ -8,7 +8,6 @@ use Rattle.rules.proofs.TableLaws.{range_0, range_1, range_2, range_3, range_4, 
 use Rattle.rules.specs.RuleTable.{IsRule, form_of}
 use Rattle.rules.proofs.ArmLaws.{shaped_given, wrong_shape, given_empty, by_group}
 use Rattle.rules.proofs.RangeLaws.{NoneFrom, none_from}
-use borrow.Author.Rules.{rules}
 use Rattle.rules.proofs.instances.is_instance.Goals as goal
 
 -- a form that is none of the first six is the last

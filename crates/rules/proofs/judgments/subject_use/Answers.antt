@@ -4,7 +4,6 @@ use native.Mathlib.Omega.{arith}
 use Rattle.rules.proofs.SubjectLaws.{by_form}
 use Rattle.rules.proofs.RangeLaws.{NoneFrom}
 use Rattle.rules.specs.Subjects.{uses_subject, use_of}
-use borrow.Author.Rules.{rules}
 use Rattle.rules.proofs.judgments.subject_use.Goals as goal
 
 use_by : (f form : ℕ) → form ≡ f → use_of f ≡ use_of form

@@ -1,5 +1,4 @@
 use Rattle.rules.proofs.ShapeLaws.{climbed_start, climbed_next, climbed_short, climbed_end}
-use borrow.Author.Rules.{rules}
 use Rattle.rules.proofs.shapes.adds.Goals as goal
 
 pub loop-left-init : goal.loop-left-init

@@ -1,6 +1,5 @@
 -- The invariant is that what is left to be found from here on is what was asked.
 use Rattle.rules.proofs.ShapeLaws.{Climbed}
-use borrow.Author.Rules.{rules}
 use Rattle.rules.proofs.shapes.adds.Given as goal
 
 abbrev pub invariant-loop-left : goal.invariant-loop-left

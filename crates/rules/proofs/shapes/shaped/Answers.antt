@@ -1,7 +1,6 @@
 -- What the table's row asks of four premises, one after the other.
 -- Assumes nothing.
 use Rattle.rules.proofs.ShapeLaws.{used_given, shaped_says}
-use borrow.Author.Rules.{rules}
 use native.Mathlib.Omega.{arith}
 use Rattle.rules.proofs.shapes.shaped.Goals as goal
 

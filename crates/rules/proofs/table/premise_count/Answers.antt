@@ -2,7 +2,6 @@ use mathlib.Core.Path.{subst, sym}
 use Prim.Native.Nat.{◌≤◌}
 use Rattle.rules.specs.RuleTable.{premise_count}
 use Rattle.rules.proofs.TableLaws.{row_agrees}
-use borrow.Author.Rules.{rules}
 use Rattle.rules.proofs.table.premise_count.Goals as goal
 
 pub returns : goal.returns

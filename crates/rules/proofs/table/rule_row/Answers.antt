@@ -1,5 +1,4 @@
 use Rattle.rules.proofs.RuleTableEntries.{row_is}
-use borrow.Author.Rules.{rules}
 use Rattle.rules.proofs.table.rule_row.Goals as goal
 
 pub returns : goal.returns

@@ -4,7 +4,6 @@ use Rattle.rules.specs.RuleChecks.{rule_subjects, FollowsIn}
 use Rattle.rules.proofs.ContextTableAnswers.{rows_known, term_rows}
 use Rattle.rules.proofs.ContextRuleAnswers.{var_no, var_missing, var_found, found_row}
 use Rattle.terms.proofs.Tests.{other_rows}
-use borrow.Author.Rules.{rules}
 use native.Mathlib.Omega.{arith}
 use Rattle.rules.proofs.typing.wt_var.Goals as goal
 

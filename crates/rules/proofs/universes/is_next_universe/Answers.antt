@@ -1,7 +1,6 @@
 -- The level is the number that the row gives.
 use Rattle.terms.proofs.Tests.{decides_via, ◌&◌}
 use Rattle.rules.proofs.UniverseLaws.{next_level}
-use borrow.Author.Rules.{rules}
 use Rattle.rules.proofs.universes.is_next_universe.Goals as goal
 
 pub returns : goal.returns

@@ -1,7 +1,6 @@
 -- The levels are the numbers that the rows give.
 use Rattle.terms.proofs.Tests.{decides_via, ◌&◌, says_le}
 use Rattle.rules.proofs.UniverseLaws.{levels_rise}
-use borrow.Author.Rules.{rules}
 use Rattle.rules.proofs.universes.universes_rise.Goals as goal
 
 pub returns : goal.returns

@@ -5,7 +5,6 @@ use Rattle.rules.specs.Subjects.{used_subjects}
 use Rattle.rules.specs.RuleChecks.{FollowsIn}
 use Rattle.rules.proofs.ContextTableAnswers.{rows_known, term_rows}
 use Rattle.rules.proofs.ContextRuleAnswers.{cons_none, cons_says, entry_row}
-use borrow.Author.Rules.{rules}
 use native.Mathlib.Omega.{arith}
 use Rattle.rules.proofs.wellformed.wf_cons.Goals as goal
 

@@ -1,6 +1,5 @@
 use mathlib.Core.Path.{◌∙◌}
 use Rattle.sheets.proofs.AnswerLaws.{layout_right, layout_counted, layout_wrong}
-use borrow.Author.Rules.{rules}
 use Rattle.sheets.proofs.admission.admit.Goals as goal
 
 pub admit_tables-requires : goal.admit_tables-requires

@@ -1,6 +1,5 @@
 use mathlib.Core.Path.{◌∙◌}
 use Rattle.sheets.proofs.AnswerLaws.{contexts_8, contexts_right, well_formed, contexts_whole}
-use borrow.Author.Rules.{rules}
 use Rattle.sheets.proofs.admission.admit_contexts.Goals as goal
 
 pub check_contexts-requires : goal.check_contexts-requires

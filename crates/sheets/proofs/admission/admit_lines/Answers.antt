@@ -1,6 +1,5 @@
 use mathlib.Core.Path.{sym, ◌∙◌, ap}
 use Rattle.sheets.specs.Admission.{after_lines}
-use borrow.Author.Rules.{rules}
 use Rattle.sheets.proofs.admission.admit_lines.Goals as goal
 
 pub returns-in-Faulty : goal.returns-in-Faulty

@@ -1,7 +1,6 @@
 use mathlib.Core.Path.{sym, ◌∙◌, ap}
 use Rattle.sheets.specs.Admission.{after_terms}
 use Rattle.sheets.proofs.AnswerLaws.{terms_right}
-use borrow.Author.Rules.{rules}
 use Rattle.sheets.proofs.admission.admit_tables.Goals as goal
 
 pub admit_contexts-requires : goal.admit_contexts-requires

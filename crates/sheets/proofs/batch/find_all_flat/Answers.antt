@@ -1,6 +1,5 @@
 use mathlib.Core.Path.{◌∙◌}
 use native.Mathlib.Omega.{arith}
-use borrow.Author.Rules.{rules}
 use Rattle.sheets.proofs.OpeningLaws.{opened_fits, flat_answered, flat_put}
 use Rattle.sheets.proofs.batch.find_all_flat.Goals as goal
 

@@ -1,5 +1,4 @@
 use mathlib.Core.Path.{refl}
-use native.Mathlib.Omega.{arith}
 use Rattle.terms.specs.Lists.{listed}
 use Rattle.sheets.proofs.FillingLaws.{filling_start, filling_element, filling_end}
 use Rattle.sheets.proofs.batch.search_each.Goals as goal

@@ -1,5 +1,5 @@
 use mathlib.Core.Path.{refl, ◌∙◌, ap}
-use Prim.Native.Nat.{◌-◌, ◌*◌}
+use Prim.Native.Nat.{◌*◌}
 use native.Mathlib.Omega.{arith}
 use Rattle.terms.specs.Lists.{listed}
 use Rattle.sheets.specs.Batch.{wanted_of}

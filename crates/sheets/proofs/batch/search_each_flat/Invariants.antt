@@ -1,6 +1,5 @@
 -- The invariant is that the answers before are put and the elements behind them are untouched.
 use Prim.Native.Nat.{◌-◌, ◌*◌}
-use native.Mathlib.Omega.{arith}
 use lib.ListN.{drop}
 use Rattle.terms.specs.Lists.{listed}
 use Rattle.sheets.specs.Batch.{wanted_of}

@@ -1,5 +1,4 @@
 use mathlib.Core.Path.{refl}
-use borrow.Author.Rules.{rules}
 use Rattle.sheets.specs.Batch.{wanted_of}
 use Rattle.sheets.proofs.batch.wanted_of.Goals as goal
 

@@ -1,4 +1,3 @@
-use borrow.Author.Rules.{rules}
 use Rattle.sheets.proofs.conversion.add_premise.Goals as goal
 
 pub returns : goal.returns

@@ -2,7 +2,6 @@ use mathlib.Core.Path.{refl, sym, ◌∙◌, ap}
 use Rattle.sheets.specs.Conversion.{convert_after, output_from}
 use Rattle.sheets.proofs.AnswerLaws.{admitted_good}
 use Rattle.sheets.proofs.ConversionAnswers.{concludes}
-use borrow.Author.Rules.{rules}
 use Rattle.sheets.proofs.conversion.convert.Goals as goal
 
 pub convert_admitted-requires : goal.convert_admitted-requires

@@ -4,7 +4,6 @@ use Rattle.sheets.specs.declared.conversion.Conversion.TheVariants.{Refused}
 use Rattle.sheets.specs.Conversion.{output_from}
 use Rattle.sheets.proofs.ConversionLaws.{answer_20, answer_21, answer_13, answer_written}
 use Rattle.sheets.proofs.ConversionAnswers.{writer_leaves}
-use borrow.Author.Rules.{rules}
 use Rattle.sheets.proofs.conversion.convert_admitted.Goals as goal
 
 pub edition_of-requires : goal.edition_of-requires

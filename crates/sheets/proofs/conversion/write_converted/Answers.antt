@@ -1,8 +1,5 @@
 use mathlib.Core.Path.{refl, ◌∙◌}
-use mathlib.Core.Logic.{⊎_elim}
-use Prim.Native.Nat.{◌-◌}
 use native.Mathlib.Omega.{arith}
-use borrow.Author.Rules.{rules}
 use Rattle.sheets.proofs.ConvertedWordLaws.{lines_start_lem, line_stays, line_changes, lines_end_lem}
 use Rattle.sheets.proofs.conversion.write_converted.Goals as goal
 use Rattle.sheets.proofs.conversion.write_converted.Goals.{then-premise-n, else-premise-n}

@@ -1,8 +1,6 @@
 -- The invariant is that the lines before have their new words.
 use Prim.Native.Nat.{◌-◌}
-use native.Mathlib.Omega.{arith}
 use lib.ListN.{get_or}
-use borrow.Author.Rules.{rules}
 use Rattle.sheets.proofs.ConvertedWordLaws.{LinesChanging}
 use Rattle.sheets.proofs.conversion.write_converted.Given as goal
 

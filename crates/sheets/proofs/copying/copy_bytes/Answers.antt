@@ -1,5 +1,4 @@
 use mathlib.Core.Path.{refl}
-use Prim.Native.Nat.{◌-◌}
 use Rattle.sheets.proofs.FillingLaws.{filling_start, filling_byte, filling_end}
 use native.Mathlib.Omega.{arith}
 use Rattle.sheets.proofs.copying.copy_bytes.Goals as goal

@@ -2,7 +2,6 @@
 use lib.ListN.{take}
 use Prim.Native.Nat.{◌-◌}
 use Rattle.sheets.proofs.FillingLaws.{Filling}
-use native.Mathlib.Omega.{arith}
 use Rattle.sheets.proofs.copying.copy_bytes.Given as goal
 
 abbrev pub invariant-loop-i : goal.invariant-loop-i

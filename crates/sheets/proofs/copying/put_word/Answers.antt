@@ -1,7 +1,6 @@
 use mathlib.Core.Path.{refl, ◌∙◌}
 use lib.ListN.{set, length-set}
 use lib.Seq.{lt-length-set}
-use borrow.Author.Rules.{rules}
 use Rattle.sheets.proofs.copying.put_word.Goals as goal
 
 pub bounds-out-at-2 : goal.bounds-out-at-2

@@ -1,7 +1,6 @@
 use mathlib.Core.Path.{◌∙◌}
 use Rattle.sheets.proofs.KeptWordLaws.{line_field, line_premise, premise_numbered, premise_lowered}
 use native.Mathlib.Omega.{arith}
-use borrow.Author.Rules.{rules}
 use Rattle.sheets.proofs.copying.renumbered_word.Goals as goal
 
 pub returns-then-j-lt6 : goal.returns-then-j-lt6

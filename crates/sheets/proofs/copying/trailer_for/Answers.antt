@@ -3,7 +3,6 @@ use Prim.Native.Nat.{ℕ, ◌+◌, ◌*◌}
 use native.Mathlib.Omega.{arith}
 use Rattle.sheets.specs.Layout.{distance_to_contexts, distance_to_lines, distance_to_terms}
 use Rattle.sheets.specs.GoodLayout.{trailer_for}
-use borrow.Author.Rules.{rules}
 use Rattle.sheets.proofs.copying.trailer_for.Goals as goal
 
 -- the distance to the terms is summed in another order

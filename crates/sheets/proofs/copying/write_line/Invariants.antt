@@ -1,6 +1,5 @@
 -- The invariant is that the words before are written.
 use Prim.Native.Nat.{◌-◌}
-use native.Mathlib.Omega.{arith}
 use Rattle.sheets.specs.KeptWords.{renumbered_word}
 use Rattle.sheets.proofs.WrittenLaws.{written}
 use Rattle.sheets.proofs.FillingLaws.{Filling}

@@ -1,6 +1,5 @@
 -- The invariant is that the lines before are written.
 use Prim.Native.Nat.{◌-◌}
-use native.Mathlib.Omega.{arith}
 use Rattle.sheets.proofs.KeptWordLaws.{LinesFilling}
 use Rattle.sheets.proofs.copying.write_lines.Given as goal
 

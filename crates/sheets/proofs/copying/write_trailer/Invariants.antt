@@ -1,7 +1,6 @@
 -- The invariant is that the words before are written.
 use Prim.Native.Nat.{◌-◌}
 use lib.ListN.{get_or}
-use native.Mathlib.Omega.{arith}
 use Rattle.sheets.proofs.WrittenLaws.{written}
 use Rattle.sheets.proofs.FillingLaws.{Filling}
 use Rattle.sheets.proofs.copying.write_trailer.Given as goal

@@ -2,7 +2,6 @@ use mathlib.Core.Path.{sym, ◌∙◌, ap}
 use native.Mathlib.Omega.{arith}
 use Rattle.sheets.specs.Finding.{find_of, find_after}
 use Rattle.sheets.proofs.AnswerLaws.{accepted_laid, lines_citing, find_searched}
-use borrow.Author.Rules.{rules}
 use Rattle.sheets.proofs.finding.find.Goals as goal
 
 pub overflow_mul-start : goal.overflow_mul-start

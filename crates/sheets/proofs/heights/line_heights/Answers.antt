@@ -1,4 +1,3 @@
-use Prim.Native.Nat.{◌-◌}
 use native.Mathlib.Omega.{arith}
 use Rattle.sheets.proofs.HeightArrayLaws.{filled_start, filled_end, line_cites, first_ground}
 use Rattle.sheets.proofs.HeightArrayLaws.{next_small, filled_next}

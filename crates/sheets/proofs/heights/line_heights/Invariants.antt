@@ -1,6 +1,5 @@
 -- The invariant is that the heights of the first n lines are there.
 use Prim.Native.Nat.{◌-◌}
-use native.Mathlib.Omega.{arith}
 use Rattle.sheets.proofs.HeightArrayLaws.{Filled}
 use Rattle.sheets.proofs.heights.line_heights.Given as goal
 

@@ -1,6 +1,5 @@
 use mathlib.Core.Path.{sym, ◌∙◌}
 use Rattle.sheets.specs.Layout.{counts_fit}
-use borrow.Author.Rules.{rules}
 use Rattle.sheets.proofs.layout.counts_fit.Goals as goal
 
 pub distances_fit-requires : goal.distances_fit-requires

@@ -1,6 +1,5 @@
 use mathlib.Core.Path.{ap}
 use Rattle.sheets.specs.Layout.{trailer_of, edition_of}
-use borrow.Author.Rules.{rules}
 use Rattle.sheets.proofs.layout.edition_of.Goals as goal
 
 pub returns : goal.returns

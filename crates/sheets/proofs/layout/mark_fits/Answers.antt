@@ -1,5 +1,4 @@
 use Rattle.sheets.specs.Layout.{mark_fits}
-use borrow.Author.Rules.{rules}
 use Rattle.sheets.proofs.layout.mark_fits.Goals as goal
 
 pub returns : goal.returns

@@ -1,7 +1,6 @@
 use mathlib.Core.Path.{sym}
 use Rattle.sheets.specs.Layout.{length_fits}
 use Rattle.sheets.proofs.LayoutLaws.{length_says, layout_1, layout_read}
-use borrow.Author.Rules.{rules}
 use Rattle.sheets.proofs.layout.read_layout.Goals as goal
 
 pub read_trailer-requires : goal.read_trailer-requires

@@ -1,5 +1,4 @@
 use Rattle.sheets.proofs.LayoutLaws.{trailer_read}
-use borrow.Author.Rules.{rules}
 use Rattle.sheets.proofs.layout.read_trailer.Goals as goal
 
 pub returns : goal.returns

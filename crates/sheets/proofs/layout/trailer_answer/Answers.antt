@@ -1,6 +1,5 @@
 use mathlib.Core.Path.{sym, ◌∙◌}
 use Rattle.sheets.proofs.LayoutLaws.{trailer_2, trailer_3, trailer_4, trailer_counted}
-use borrow.Author.Rules.{rules}
 use Rattle.sheets.proofs.layout.trailer_answer.Goals as goal
 
 pub returns-then-work-t : goal.returns-then-work-t

@@ -1,6 +1,5 @@
 -- Number `count` of the list, if there is one, is the only one that can be k.
 use native.Mathlib.Omega.{arith}
-use borrow.Author.Rules.{rules}
 use Rattle.sheets.proofs.NumberingLaws.{next_more, next_same}
 use Rattle.sheets.proofs.line_sets.next_count.Goals as goal
 

@@ -1,6 +1,5 @@
-use Prim.Native.Nat.{◌-◌, ◌≤◌}
+use Prim.Native.Nat.{◌≤◌}
 use native.Mathlib.Omega.{arith}
-use borrow.Author.Rules.{rules}
 use Rattle.sheets.proofs.LineSetLaws.{count_within}
 use Rattle.sheets.proofs.NumberingLaws.{numbered_start, numbered_next, numbered_end}
 use Rattle.sheets.proofs.line_sets.number_lines.Goals.{In-loop-k}

@@ -1,7 +1,5 @@
 -- The invariant is that the lines before line k are numbered.
 use Prim.Native.Nat.{suc, ◌-◌}
-use native.Mathlib.Omega.{arith}
-use borrow.Author.Rules.{rules}
 use Rattle.sheets.proofs.NumberingLaws.{Numbered}
 use Rattle.sheets.proofs.line_sets.number_lines.Given as goal
 

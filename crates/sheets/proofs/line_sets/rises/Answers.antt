@@ -1,8 +1,5 @@
 use mathlib.Core.Path.{refl}
-use mathlib.Core.Bool.{true, false}
-use Prim.Native.Nat.{◌-◌}
 use native.Mathlib.Omega.{arith}
-use borrow.Author.Rules.{rules}
 use borrow.Author.Tests.{le-leb, lt-leb}
 use Rattle.terms.proofs.SearchLaws.{looking_start, looking_here, looking_next, looking_end}
 use Rattle.sheets.specs.LineSets.{rises}

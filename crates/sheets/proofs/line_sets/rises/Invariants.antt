@@ -1,10 +1,8 @@
 -- The invariant is that the search of the places ahead answers for the whole.
 use mathlib.Core.Bool.{true, false}
 use Prim.Native.Nat.{◌+◌, ◌-◌}
-use native.Mathlib.Omega.{arith}
 use lib.Dec.{leb}
 use lib.ListN.{length, get_or}
-use borrow.Author.Rules.{rules}
 use Rattle.terms.proofs.SearchLaws.{Looking}
 use Rattle.sheets.specs.LineSets.{rises}
 use Rattle.sheets.proofs.line_sets.rises.Given as goal

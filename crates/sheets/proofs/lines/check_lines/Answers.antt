@@ -1,6 +1,4 @@
-use Prim.Native.Nat.{◌-◌}
 use native.Mathlib.Omega.{arith}
-use borrow.Author.Rules.{rules}
 use Rattle.sheets.proofs.LineAnswers.{no_lines, walked_start, walked_end, line_whole, walked_9, asked, walked_10, walked_next}
 use Rattle.sheets.proofs.lines.check_lines.Goals as goal
 

@@ -1,8 +1,6 @@
 -- The invariant is that the lines before are good and that the check of the remaining ones answers for the whole.
 use Rattle.sheets.specs.Good.{WellFormedTables}
 use Prim.Native.Nat.{◌-◌}
-use native.Mathlib.Omega.{arith}
-use borrow.Author.Rules.{rules}
 use Rattle.sheets.proofs.LineAnswers.{Walked}
 use Rattle.sheets.proofs.lines.check_lines.Given as goal
 

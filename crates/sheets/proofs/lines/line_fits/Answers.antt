@@ -1,6 +1,5 @@
 use mathlib.Core.Path.{◌∙◌}
 use Rattle.sheets.proofs.LineAnswers.{fits_no, fits_rest, rule_known_lem}
-use borrow.Author.Rules.{rules}
 use Rattle.sheets.proofs.lines.line_fits.Goals as goal
 
 pub premise_count-requires : goal.premise_count-requires

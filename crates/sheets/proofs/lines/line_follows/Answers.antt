@@ -14,7 +14,6 @@ use Rattle.sheets.specs.Layout.{contexts_in, lines_in}
 use Rattle.sheets.specs.Lines.{judgment_of, premises_of, LineFollows}
 use Rattle.sheets.proofs.BufferLaws.{part_to_end}
 use Rattle.sheets.proofs.LineAnswers.{named_whole, line_in_tables, line_decided}
-use borrow.Author.Rules.{rules}
 use native.Mathlib.Omega.{arith}
 use Rattle.sheets.proofs.lines.line_follows.Goals.{After-judgment_of-c}
 use Rattle.sheets.proofs.lines.line_follows.Goals as goal

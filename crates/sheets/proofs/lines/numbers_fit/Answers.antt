@@ -1,5 +1,4 @@
 use Rattle.sheets.proofs.LineLaws.{numbers_joined}
-use borrow.Author.Rules.{rules}
 use Rattle.sheets.proofs.lines.numbers_fit.Goals as goal
 
 pub returns : goal.returns

@@ -1,5 +1,4 @@
 use Rattle.sheets.specs.Lines.{premises_fit}
-use borrow.Author.Rules.{rules}
 use Rattle.sheets.proofs.lines.premises_fit.Goals as goal
 
 pub returns : goal.returns

@@ -1,5 +1,4 @@
 use Rattle.sheets.specs.Lines.{line_of}
-use borrow.Author.Rules.{rules}
 use Rattle.sheets.proofs.lines.read_line.Goals as goal
 
 pub returns : goal.returns

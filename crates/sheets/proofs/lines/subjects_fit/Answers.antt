@@ -1,5 +1,4 @@
 use Rattle.sheets.proofs.LineLaws.{subjects_bound}
-use borrow.Author.Rules.{rules}
 use Rattle.sheets.proofs.lines.subjects_fit.Goals as goal
 
 pub returns : goal.returns

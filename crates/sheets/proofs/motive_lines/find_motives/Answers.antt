@@ -1,8 +1,7 @@
 use mathlib.Core.Path.{◌≡◌}
-use Prim.Native.Nat.{ℕ, ◌-◌, ◌<◌}
+use Prim.Native.Nat.{ℕ, ◌<◌}
 use native.Mathlib.Omega.{arith}
 use lib.ListN.{length-replicate}
-use borrow.Author.Rules.{rules}
 use Rattle.sheets.specs.Lines.{line_at}
 use Rattle.sheets.proofs.CitingLaws.{citing_lines}
 use Rattle.sheets.proofs.MotiveLineLaws.{read_is, asks_is, found_start, found_end, found-without}

@@ -1,7 +1,5 @@
 -- The invariant is that the first n lines have their numbers in the arrays, and that none of them is without a motive.
 use Prim.Native.Nat.{◌-◌}
-use native.Mathlib.Omega.{arith}
-use borrow.Author.Rules.{rules}
 use Rattle.sheets.proofs.MotiveLineLaws.{Found}
 use Rattle.sheets.proofs.motive_lines.find_motives.Given as goal
 

@@ -1,9 +1,6 @@
 -- The invariant is that the search of the places that are left answers for the whole.
-use Prim.Native.Nat.{◌-◌}
-use native.Mathlib.Omega.{arith}
 use lib.Dec.{eqb}
 use lib.ListN.{get_or}
-use borrow.Author.Rules.{rules}
 use Rattle.sheets.proofs.MotiveLineLaws.{LookingLeft}
 use Rattle.sheets.proofs.motive_lines.first_equal.Given as goal
 

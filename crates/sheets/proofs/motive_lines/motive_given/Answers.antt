@@ -1,4 +1,3 @@
-use borrow.Author.Rules.{rules}
 use Rattle.sheets.proofs.MotiveLineLaws.{read_in_tables, number_given}
 use Rattle.sheets.proofs.motive_lines.motive_given.Goals as goal
 

@@ -1,5 +1,4 @@
 use mathlib.Core.Path.{sym, ◌∙◌}
-use borrow.Author.Rules.{rules}
 use Rattle.terms.proofs.Tests.{refuted}
 use Rattle.sheets.specs.Conversion.{WantsMotive}
 use Rattle.sheets.proofs.MotiveLineLaws.{says_wants, premise_own, asks_is}

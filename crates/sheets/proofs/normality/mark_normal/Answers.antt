@@ -1,7 +1,6 @@
 use mathlib.Core.Path.{sym, ◌∙◌}
 use Rattle.sheets.proofs.AdmissionLaws.{accepted_is}
 use Rattle.sheets.proofs.NormalityLaws.{normality_refused, normality_accepted}
-use borrow.Author.Rules.{rules}
 use Rattle.sheets.proofs.normality.mark_normal.Goals as goal
 
 pub term_normality-requires : goal.term_normality-requires

@@ -1,7 +1,6 @@
 use mathlib.Core.Bool.{true, false}
 use Rattle.sheets.specs.Normality.{yes_or_no}
 use Rattle.sheets.proofs.NormalityLaws.{term_missing, term-answered}
-use borrow.Author.Rules.{rules}
 use Rattle.sheets.proofs.normality.term_normality.Goals as goal
 
 pub returns-then-terms-term : goal.returns-then-terms-term

@@ -1,7 +1,6 @@
 use mathlib.Core.Path.{sym, ◌∙◌, ap, subst}
 use native.Mathlib.Omega.{arith}
 use lib.ListN.{length}
-use borrow.Author.Rules.{rules}
 use Rattle.sheets.specs.SearchSteps.{heights_of}
 use Rattle.sheets.specs.Opening.{Answerable}
 use Rattle.sheets.proofs.BufferLaws.{part_to_end}

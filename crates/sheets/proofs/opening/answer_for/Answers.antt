@@ -1,6 +1,5 @@
 use mathlib.Core.Path.{sym, ap, subst}
 use native.Mathlib.Omega.{arith}
-use borrow.Author.Rules.{rules}
 use Rattle.sheets.specs.Batch.{answer_for}
 use Rattle.sheets.specs.Opening.{Answerable}
 use Rattle.sheets.proofs.opening.answer_for.Goals as goal

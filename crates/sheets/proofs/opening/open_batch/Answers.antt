@@ -1,6 +1,5 @@
 use mathlib.Core.Path.{sym, ◌∙◌}
 use native.Mathlib.Omega.{arith}
-use borrow.Author.Rules.{rules}
 use Rattle.sheets.proofs.AnswerLaws.{accepted_laid, lines_citing}
 use Rattle.sheets.proofs.OpeningLaws.{opened_refused, opened_19, opened_all}
 use Rattle.sheets.proofs.opening.open_batch.Goals as goal

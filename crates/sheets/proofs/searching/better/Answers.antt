@@ -1,6 +1,5 @@
 use native.Mathlib.Omega.{arith}
 use lib.ListN.{get_or}
-use borrow.Author.Rules.{rules}
 use Rattle.sheets.proofs.EasiestLaws.{better_first, better_before, better_later}
 use Rattle.sheets.proofs.searching.better.Goals as goal
 

@@ -1,5 +1,4 @@
 use Rattle.sheets.specs.Finding.{has_numbers}
-use borrow.Author.Rules.{rules}
 use Rattle.sheets.proofs.searching.has_numbers.Goals as goal
 
 pub returns : goal.returns

@@ -1,7 +1,6 @@
 use mathlib.Core.Path.{sym, subst}
-use Prim.Native.Nat.{◌+◌, ◌-◌}
+use Prim.Native.Nat.{◌+◌}
 use native.Mathlib.Omega.{arith}
-use borrow.Author.Rules.{rules}
 use Rattle.sheets.proofs.FindingLaws.{BestBefore, best_start, best_next, best_passed, best_line, best_none}
 use Rattle.sheets.proofs.searching.search_lines.Goals as goal
 use Rattle.sheets.proofs.searching.search_lines.Goals.{then-has_numbers, else-has_numbers}

@@ -1,7 +1,5 @@
 -- The invariant is that `best` is the easiest of the first n lines that has the numbers, if there is one.
 use Prim.Native.Nat.{◌-◌}
-use native.Mathlib.Omega.{arith}
-use borrow.Author.Rules.{rules}
 use Rattle.sheets.proofs.FindingLaws.{BestBefore}
 use Rattle.sheets.proofs.searching.search_lines.Given as goal
 

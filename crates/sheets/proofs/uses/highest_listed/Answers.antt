@@ -1,4 +1,3 @@
-use borrow.Author.Rules.{rules}
 use Rattle.sheets.specs.ListedUses.{highest_listed}
 use Rattle.sheets.proofs.uses.highest_listed.Goals as goal
 

@@ -1,6 +1,5 @@
 -- The invariant is what was found among the lines that stay before place m.
 use Prim.Native.Nat.{◌-◌}
-use native.Mathlib.Omega.{arith}
 use Rattle.sheets.proofs.KeptUseLaws.{FoundBefore}
 use Rattle.sheets.proofs.uses.kept_use.Given as goal
 

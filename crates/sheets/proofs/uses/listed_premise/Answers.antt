@@ -1,5 +1,4 @@
 use mathlib.Core.Path.{sym}
-use borrow.Author.Rules.{rules}
 use Rattle.sheets.proofs.KeptUseLaws.{listed_premise_lem, other_premise}
 use Rattle.sheets.proofs.uses.listed_premise.Goals as goal
 

@@ -1,6 +1,5 @@
 use mathlib.Core.Path.{sym, ◌∙◌}
 use Rattle.sheets.proofs.OneLineLaws.{single_answer, single_out, single_keeps}
-use borrow.Author.Rules.{rules}
 use Rattle.sheets.proofs.withdrawal.withdraw.Goals as goal
 
 pub returns : goal.returns

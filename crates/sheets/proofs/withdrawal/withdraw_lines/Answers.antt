@@ -6,7 +6,6 @@ use Rattle.sheets.proofs.LineSetLaws.{few_listed}
 use Rattle.sheets.proofs.CitingLaws.{citing_lines}
 use Rattle.sheets.proofs.SetAnswers.{answer_12, answer_13, answer_written, writer_asks}
 use Rattle.sheets.proofs.SetAnswers.{writer_room, writer_leaves}
-use borrow.Author.Rules.{rules}
 use Rattle.sheets.proofs.withdrawal.withdraw_lines.Goals as goal
 
 pub edition_of-edition-requires : goal.edition_of-edition-requires

@@ -1,11 +1,9 @@
 use mathlib.Core.Path.{refl, sym, ◌∙◌}
 use native.Mathlib.Omega.{arith}
-use borrow.Author.Tests.{not-true, not-false}
 use Rattle.sheets.specs.Withdrawal.{out_from}
 use Rattle.sheets.specs.LineSets.{last_listed}
 use Rattle.sheets.proofs.LineSetLaws.{rises_says}
 use Rattle.sheets.proofs.SetLaws.{all_lines, not_rising_lem, not_there, lines_there}
-use borrow.Author.Rules.{rules}
 use Rattle.sheets.proofs.withdrawal.withdraw_listed.Goals as goal
 use Rattle.sheets.proofs.withdrawal.withdraw_listed.Goals.{then-count-gt0+else-lines-last, else-count-gt0}
 

@@ -1,6 +1,5 @@
 use Rattle.sheets.proofs.AnswerLaws.{admitted_good}
 use Rattle.sheets.proofs.SetAnswers.{kept, handed_on, gone_on}
-use borrow.Author.Rules.{rules}
 use Rattle.sheets.proofs.withdrawal.withdraw_set.Goals as goal
 
 pub withdraw_listed-requires : goal.withdraw_listed-requires
