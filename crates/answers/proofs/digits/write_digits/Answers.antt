@@ -29,18 +29,18 @@ digits_step b (suc j) k rest g out some h room e =
     ∙ ap (λ (x : ℕ). todo ++ x ∷ done) e
     ∙ sym (append_snoc todo (hex_digit_ascii (rest % b)) done)
 
-pub loop_i_init : goal.loop_i_init
-loop_i_init c =
+pub loop-i-init : goal.loop-i-init
+loop-i-init c =
     let a = c.args in
     let all = last_digits 10 a.count a.n in
     (refl, le_refl a.count, ap (λ (l : List ℕ). all ++ l) (slice_empty a.count a.out.now) ∙ append-nil all, refl)
 
-pub loop_i_preserved : goal.loop_i_preserved
-loop_i_preserved c =
-    let l = c.loop_i in
+pub loop-i-preserved : goal.loop-i-preserved
+loop-i-preserved c =
+    let l = c.loop-i in
     let a = c.args in (
       simp length-set l.invariant.0,
       omega arith,
-      digits_step 10 l.i a.count l.rest c.digit_to_ascii.result l.out c.loop_i_test.true l.invariant.1 (omega arith) c.digit_to_ascii.ensures ∙ l.invariant.2,
+      digits_step 10 l.i a.count l.rest c.digit_to_ascii.result l.out c.loop-i-test.true l.invariant.1 (omega arith) c.digit_to_ascii.ensures ∙ l.invariant.2,
       drop-set-lt a.count l.out (l.i - 1) _ (omega arith) ∙ l.invariant.3,
     )

@@ -2,8 +2,8 @@
 use Rattle.std.proofs.Common.{length, ◌-◌, ◌≡◌, ◌≤◌}
 use Rattle.answers.proofs.input.read_whole.Given as goal
 
-abbrev pub invariant_loop_length : goal.invariant_loop_length
-invariant_loop_length g l = (l.length ≤ length l.buffer) × (length l.buffer ≡ length l.initial.buffer)
+abbrev pub invariant-loop-length : goal.invariant-loop-length
+invariant-loop-length g l = (l.length ≤ length l.buffer) × (length l.buffer ≡ length l.initial.buffer)
 
-abbrev pub decreases_loop_length : goal.decreases_loop_length
-decreases_loop_length g l = length l.initial.buffer - l.length
+abbrev pub decreases-loop-length : goal.decreases-loop-length
+decreases-loop-length g l = length l.initial.buffer - l.length
