@@ -2,7 +2,7 @@
  * Mengyubad: admission of derivation sheets, finding of a judgment or a batch of judgments, withdrawal of a line or a
  * set of lines, conversion to edition 3, marking of normal terms, day numbers and reading windows.
  *
- * Link libmengyubad.a (`rt staticlib mengyubad` writes it to target/staticlib; x86-64). What each function answers and
+ * Link libmengyubad.a (`rt lib` in crates/mengyubad writes it to out/; x86-64). What each function answers and
  * leaves in the buffers is proved: the contracts stand in crates/mengyubad/src/lib.rt, and the comments here say them
  * in words. docs/FORMAT.md describes sheets, of editions 1 to 3, normal terms and dates.
  *

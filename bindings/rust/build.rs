@@ -1,4 +1,4 @@
-// Links the proved archive. `rt staticlib mengyubad` writes it to target/staticlib of the repository; MENGYUBAD_LIB names another folder.
+// Links the proved archive. `rt lib` in crates/mengyubad writes it to the folder out there; MENGYUBAD_LIB names another folder.
 use std::env;
 use std::path::PathBuf;
 
@@ -10,7 +10,7 @@ fn main() {
             let here = PathBuf::from(
                 env::var_os("CARGO_MANIFEST_DIR").expect("cargo sets CARGO_MANIFEST_DIR"),
             );
-            here.join("../../target/staticlib")
+            here.join("../../crates/mengyubad/out")
         }
     };
     println!(
