@@ -1,6 +1,8 @@
 // The library for programs in other languages. Every function answers a number, 0 or that of a refusal, and puts three
 // values: if the number is 0 the counts, the line, how many judgments were sought, the length, the day number, or 1 for
 // normal or open and 0 for not; else the place. What is left over is 0.
+#![tactic(auto)]
+
 ghost use Rattle.std.specs.Prelude.{◌≡◌, length};
 ghost use Rattle.sheets.specs.Admission.{admit_of, work_after};
 ghost use Rattle.sheets.specs.Finding.{find_of};
@@ -25,7 +27,7 @@ use windows::access::{Access, Window};
 use windows::dates::{Date, DayNumber};
 
 // A number and three values.
-#[derive(Drop)]
+#[derive(Clone, Copy)]
 struct Reply {
     number: usize,
     first: usize,
