@@ -1,6 +1,5 @@
 use mathlib.Core.Path.{sym, ◌∙◌, ap}
 use Rattle.mengyubad.specs.Replies.{conversion_reply}
-use borrow.Author.Rules.{rules}
 use Rattle.mengyubad.proofs.conversion_reply.Goals as goal
 
 pub returns-in-Refused : goal.returns-in-Refused

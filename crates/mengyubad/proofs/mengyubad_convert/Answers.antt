@@ -2,7 +2,6 @@ use mathlib.Core.Path.{◌∙◌, ap, subst}
 use Rattle.sheets.specs.Conversion.{KeepsEveryLine}
 use Rattle.mengyubad.specs.Replies.{conversion_reply}
 use Rattle.mengyubad.proofs.ReplyLaws.{given_equal}
-use borrow.Author.Rules.{rules}
 use Rattle.mengyubad.proofs.mengyubad_convert.Goals as goal
 
 pub returns : goal.returns

@@ -2,7 +2,6 @@ use mathlib.Core.Path.{◌∙◌, ap}
 use Rattle.windows.specs.Dates.{day_number_of}
 use Rattle.mengyubad.specs.Replies.{day_reply}
 use Rattle.mengyubad.proofs.ReplyLaws.{given_equal}
-use borrow.Author.Rules.{rules}
 use Rattle.mengyubad.proofs.mengyubad_day_number.Goals as goal
 
 pub returns : goal.returns

@@ -2,7 +2,6 @@ use mathlib.Core.Path.{◌∙◌, ap}
 use Rattle.sheets.specs.Batch.{wanted_of}
 use Rattle.mengyubad.specs.Replies.{found_reply}
 use Rattle.mengyubad.proofs.ReplyLaws.{given_equal}
-use borrow.Author.Rules.{rules}
 use Rattle.mengyubad.proofs.mengyubad_find.Goals as goal
 
 pub returns : goal.returns

@@ -2,7 +2,6 @@ use mathlib.Core.Path.{◌∙◌, ap}
 use Rattle.windows.specs.Access.{window_of, open_on}
 use Rattle.mengyubad.specs.Replies.{access_reply}
 use Rattle.mengyubad.proofs.ReplyLaws.{given_equal}
-use borrow.Author.Rules.{rules}
 use Rattle.mengyubad.proofs.mengyubad_window.Goals as goal
 
 pub returns : goal.returns

@@ -2,7 +2,6 @@ use mathlib.Core.Path.{◌∙◌, ap, subst}
 use Rattle.sheets.specs.Withdrawal.{KeepsTheOthers}
 use Rattle.mengyubad.specs.Replies.{withdrawal_reply}
 use Rattle.mengyubad.proofs.ReplyLaws.{given_equal}
-use borrow.Author.Rules.{rules}
 use Rattle.mengyubad.proofs.mengyubad_withdraw.Goals as goal
 
 pub returns : goal.returns

@@ -1,6 +1,5 @@
 use Rattle.windows.specs.Dates.{date_of}
 use Rattle.answers.specs.Dates.{date_from}
-use borrow.Author.Rules.{rules}
 use Rattle.answers.proofs.dates.date_from.Goals as goal
 
 pub returns-in_default : goal.returns-in_default

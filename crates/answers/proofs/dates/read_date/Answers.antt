@@ -1,6 +1,5 @@
 use mathlib.Core.Path.{◌∙◌}
 use Rattle.answers.proofs.DatePartLaws.{parts_read}
-use borrow.Author.Rules.{rules}
 use Rattle.answers.proofs.dates.read_date.Goals as goal
 
 pub returns : goal.returns

@@ -1,7 +1,6 @@
 use mathlib.Core.Path.{sym, ◌∙◌}
 use borrow.Author.Tests.{not-true, not-false}
 use Rattle.answers.proofs.DateLaws.{no_numeral, numeral_held}
-use borrow.Author.Rules.{rules}
 use Rattle.answers.proofs.dates.read_part.Goals as goal
 
 pub returns-then-not-is_numeral : goal.returns-then-not-is_numeral

@@ -1,5 +1,3 @@
-use Prim.Native.Nat.{◌-◌}
-use borrow.Author.Rules.{rules}
 use Rattle.answers.proofs.TextLaws.{put_start, put_next, put_done}
 use Rattle.answers.proofs.lines.put.Goals as goal
 

@@ -1,6 +1,5 @@
 -- The invariant is that the first i bytes are put.
 use Prim.Native.Nat.{◌-◌}
-use borrow.Author.Rules.{rules}
 use lib.ListN.{length}
 use Rattle.answers.proofs.TextLaws.{PutSoFar}
 use Rattle.answers.proofs.lines.put.Given as goal

@@ -1,6 +1,5 @@
 use native.Mathlib.Omega.{arith}
 use Rattle.answers.proofs.TextLaws.{twenty, answer_put}
-use borrow.Author.Rules.{rules}
 use Rattle.answers.proofs.lines.put_answer.Goals as goal
 
 pub put-after-requires : goal.put-after-requires

@@ -1,7 +1,5 @@
-use Prim.Native.Nat.{◌-◌}
 use native.Mathlib.Omega.{arith}
 use Rattle.answers.proofs.TextLaws.{no_answers, next_answer, all_answers}
-use borrow.Author.Rules.{rules}
 use Rattle.answers.proofs.lines.put_answers.Goals as goal
 
 pub loop-i-init : goal.loop-i-init

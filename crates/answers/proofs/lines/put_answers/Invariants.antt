@@ -1,9 +1,7 @@
 -- The invariant is that the lines of the first i answers are put.
 use Prim.Native.Nat.{◌-◌}
-use native.Mathlib.Omega.{arith}
 use lib.ListN.{length}
 use Rattle.answers.proofs.TextLaws.{AnswersSoFar}
-use borrow.Author.Rules.{rules}
 use Rattle.answers.proofs.lines.put_answers.Given as goal
 
 abbrev pub invariant-loop-i : goal.invariant-loop-i

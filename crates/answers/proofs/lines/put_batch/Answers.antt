@@ -3,7 +3,6 @@ use native.Mathlib.Omega.{arith}
 use Rattle.answers.specs.Text.{batch_text}
 use Rattle.answers.proofs.TextLaws.{joined, whole_line, same_text, ok_short, refusal_short}
 use Rattle.answers.proofs.BatchTextLaws.{line_put}
-use borrow.Author.Rules.{rules}
 use Rattle.answers.proofs.lines.put_batch.Goals as goal
 
 pub put-requires : goal.put-requires
@@ -39,6 +38,9 @@ pub returns-in-Answered : goal.returns-in-Answered
 unfolding batch_text
 returns-in-Answered c =
     let first = line_put c.put_value-count.ensures.at_start c.put-first.ensures in
-    let lines = whole_line (joined first c.put_answers.ensures) in record { prefix_len = lines.0; at_start = same_text
+    let lines = whole_line (joined first c.put_answers.ensures) in record {
+      prefix_len = lines.0;
+      at_start = same_text
           (ap (λ a. batch_text a c.args.answers.now) (sym c.in-Answered.is))
-          lines.1 }
+          lines.1;
+    }

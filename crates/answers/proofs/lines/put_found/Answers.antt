@@ -1,7 +1,6 @@
 use mathlib.Core.Path.{sym, ap}
 use Rattle.answers.specs.Text.{found_text}
 use Rattle.answers.proofs.TextLaws.{same_text}
-use borrow.Author.Rules.{rules}
 use Rattle.answers.proofs.lines.put_found.Goals as goal
 
 pub returns-in-Refused : goal.returns-in-Refused

@@ -1,6 +1,5 @@
 use native.Mathlib.Omega.{arith}
 use Rattle.answers.proofs.TextLaws.{twenty, number_put}
-use borrow.Author.Rules.{rules}
 use Rattle.answers.proofs.lines.put_number.Goals as goal
 
 pub put-requires : goal.put-requires

@@ -1,6 +1,5 @@
 use Rattle.answers.specs.Text.{refused_text}
 use Rattle.answers.proofs.TextLaws.{joined, whole_line}
-use borrow.Author.Rules.{rules}
 use Rattle.answers.proofs.lines.put_refusal.Goals as goal
 
 pub returns : goal.returns

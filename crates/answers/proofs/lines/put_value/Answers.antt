@@ -1,6 +1,5 @@
 use Rattle.answers.specs.Text.{ok_text}
 use Rattle.answers.proofs.TextLaws.{joined, whole_line}
-use borrow.Author.Rules.{rules}
 use Rattle.answers.proofs.lines.put_value.Goals as goal
 
 pub returns : goal.returns

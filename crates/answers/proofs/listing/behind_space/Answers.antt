@@ -1,6 +1,5 @@
 use native.Mathlib.Omega.{arith}
 use Rattle.answers.proofs.PartLaws.{rest_is}
-use borrow.Author.Rules.{rules}
 use Rattle.answers.proofs.listing.behind_space.Goals as goal
 
 pub returns : goal.returns

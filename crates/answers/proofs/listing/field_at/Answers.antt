@@ -1,7 +1,6 @@
 use mathlib.Core.Path.{◌∙◌, ap}
 use Rattle.answers.specs.Listing.{field_in}
 use Rattle.answers.proofs.PartLaws.{part_is}
-use borrow.Author.Rules.{rules}
 use Rattle.answers.proofs.listing.field_at.Goals as goal
 
 pub returns : goal.returns

@@ -1,6 +1,5 @@
 use mathlib.Core.Path.{◌∙◌, ap}
 use Rattle.answers.specs.Numbers.{field_of}
-use borrow.Author.Rules.{rules}
 use Rattle.answers.proofs.listing.field_in.Goals as goal
 
 pub returns : goal.returns

@@ -1,7 +1,6 @@
 use lib.ListN.{length-set}
 use native.Mathlib.Omega.{arith}
 use Rattle.answers.proofs.ListingLaws.{judgment_put}
-use borrow.Author.Rules.{rules}
 use Rattle.answers.proofs.listing.put_judgment.Goals as goal
 
 pub bounds-numbers-at-2 : goal.bounds-numbers-at-2

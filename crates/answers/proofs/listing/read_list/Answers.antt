@@ -1,7 +1,5 @@
-use Prim.Native.Nat.{◌-◌}
 use native.Mathlib.Omega.{arith}
 use Rattle.answers.proofs.ListingLaws.{no_lines, list_read, too_many, no_judgment_lem, line_read}
-use borrow.Author.Rules.{rules}
 use Rattle.answers.proofs.listing.read_list.Goals as goal
 
 pub loop-at-init : goal.loop-at-init

@@ -1,9 +1,7 @@
 -- The invariant is that the lines before place `at` are read.
 use Prim.Native.Nat.{◌-◌}
-use native.Mathlib.Omega.{arith}
 use lib.ListN.{length}
 use Rattle.answers.proofs.ListingLaws.{ListSoFar}
-use borrow.Author.Rules.{rules}
 use Rattle.answers.proofs.listing.read_list.Given as goal
 
 abbrev pub invariant-loop-at : goal.invariant-loop-at

@@ -1,6 +1,5 @@
 use mathlib.Core.Path.{◌∙◌}
 use Rattle.answers.proofs.ListingLaws.{request_is}
-use borrow.Author.Rules.{rules}
 use Rattle.answers.proofs.listing.request_in.Goals as goal
 
 pub returns : goal.returns

@@ -1,6 +1,5 @@
 use borrow.Author.Tests.{le-ltb, lt-ltb}
 use Rattle.answers.specs.Numbers.{field_of}
-use borrow.Author.Rules.{rules}
 use Rattle.answers.proofs.numbers.field_of.Goals as goal
 
 pub returns-in_default : goal.returns-in_default

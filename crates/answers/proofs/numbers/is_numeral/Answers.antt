@@ -1,6 +1,4 @@
-use Prim.Native.Nat.{◌-◌}
 use mathlib.Core.Path.{sym, ◌∙◌}
-use borrow.Author.Rules.{rules}
 use borrow.Author.Tests.{not-true, not-false}
 use Rattle.answers.proofs.NumberLaws.{no_digits, all_digits_lem, other_byte, one_digit}
 use Rattle.answers.proofs.numbers.is_numeral.Goals as goal

@@ -1,6 +1,5 @@
 -- The invariant is that the bytes passed are digits.
 use Prim.Native.Nat.{◌-◌}
-use borrow.Author.Rules.{rules}
 use lib.ListN.{length}
 use Rattle.answers.proofs.NumberLaws.{DigitsSoFar}
 use Rattle.answers.proofs.numbers.is_numeral.Given as goal

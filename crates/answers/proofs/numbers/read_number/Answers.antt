@@ -1,7 +1,6 @@
 use Prim.Native.Nat.{◌-◌}
 use mathlib.Core.Path.{refl, sym, ◌∙◌, ap}
 use native.Mathlib.Omega.{arith}
-use borrow.Author.Rules.{rules}
 use borrow.Author.Tests.{not-true, not-false}
 use Rattle.answers.proofs.NumberLaws.{start, empty, done, not_read, overflows, goes_on, digit_range}
 use Rattle.answers.proofs.numbers.read_number.Goals as goal

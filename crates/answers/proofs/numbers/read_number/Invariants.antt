@@ -1,7 +1,5 @@
 -- The invariant is that the digits read so far, with the rest of the text, answer for the whole.
 use Prim.Native.Nat.{◌-◌}
-use native.Mathlib.Omega.{arith}
-use borrow.Author.Rules.{rules}
 use lib.ListN.{length}
 use Rattle.answers.proofs.NumberLaws.{ReadSoFar}
 use Rattle.answers.proofs.numbers.read_number.Given as goal

@@ -1,5 +1,4 @@
 use Rattle.answers.specs.Numbers.{request_of}
-use borrow.Author.Rules.{rules}
 use Rattle.answers.proofs.numbers.request_of.Goals as goal
 
 pub returns-in_default : goal.returns-in_default

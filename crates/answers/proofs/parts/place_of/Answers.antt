@@ -1,5 +1,3 @@
-use Prim.Native.Nat.{◌-◌}
-use borrow.Author.Rules.{rules}
 use Rattle.answers.proofs.PartLaws.{none_passed, at_end, found, passes}
 use Rattle.answers.proofs.parts.place_of.Goals as goal
 

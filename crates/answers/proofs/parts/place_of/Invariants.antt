@@ -1,7 +1,6 @@
 -- The byte is not among those passed; the measure is what is left of the text.
 -- Assumes nothing.
 use Prim.Native.Nat.{◌-◌}
-use borrow.Author.Rules.{rules}
 use lib.ListN.{length}
 use Rattle.answers.proofs.PartLaws.{Passed}
 use Rattle.answers.proofs.parts.place_of.Given as goal

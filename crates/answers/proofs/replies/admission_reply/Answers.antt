@@ -1,7 +1,6 @@
 use mathlib.Core.Path.{ap}
 use Rattle.answers.specs.Text.{admission_text}
 use Rattle.answers.proofs.TextLaws.{same_text}
-use borrow.Author.Rules.{rules}
 use Rattle.answers.proofs.replies.admission_reply.Goals as goal
 
 pub returns : goal.returns

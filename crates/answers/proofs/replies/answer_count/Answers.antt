@@ -1,6 +1,5 @@
 use mathlib.Core.Path.{sym, ap}
 use Rattle.answers.specs.Text.{answer_count}
-use borrow.Author.Rules.{rules}
 use Rattle.answers.proofs.replies.answer_count.Goals as goal
 
 pub returns-in-Answered : goal.returns-in-Answered

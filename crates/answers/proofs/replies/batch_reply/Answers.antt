@@ -3,7 +3,6 @@ use mathlib.Core.Path.{sym}
 use lib.Seq.{length-take-le}
 use Rattle.answers.proofs.TextLaws.{same_text}
 use Rattle.answers.proofs.BatchTextLaws.{count_within, part_few, batch_text_lem}
-use borrow.Author.Rules.{rules}
 use Rattle.answers.proofs.replies.batch_reply.Goals as goal
 
 pub slice_bounds-answers-end : goal.slice_bounds-answers-end

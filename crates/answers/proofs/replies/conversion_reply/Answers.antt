@@ -2,7 +2,6 @@ use mathlib.Core.Path.{sym, subst}
 use Rattle.sheets.specs.declared.conversion.Conversion.TheVariants.{Written}
 use Rattle.sheets.proofs.AnsweredLaws.{converted_fits}
 use Rattle.answers.specs.Room.{Within}
-use borrow.Author.Rules.{rules}
 use Rattle.answers.proofs.replies.conversion_reply.Goals as goal
 
 pub returns : goal.returns

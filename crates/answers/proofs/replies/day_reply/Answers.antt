@@ -1,7 +1,6 @@
 use mathlib.Core.Path.{sym, ◌∙◌}
 use Rattle.answers.proofs.TextLaws.{nothing_put, same_text}
 use Rattle.answers.proofs.DateLaws.{date_unread, date_read}
-use borrow.Author.Rules.{rules}
 use Rattle.answers.proofs.replies.day_reply.Goals as goal
 
 pub returns-in_default : goal.returns-in_default

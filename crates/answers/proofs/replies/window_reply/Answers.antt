@@ -2,7 +2,6 @@ use mathlib.Core.Path.{sym, ◌∙◌, ap}
 use Rattle.windows.specs.Access.{open_on}
 use Rattle.answers.proofs.TextLaws.{nothing_put, same_text}
 use Rattle.answers.proofs.DateLaws.{first_unread, last_unread, day_unread, window_read}
-use borrow.Author.Rules.{rules}
 use Rattle.answers.proofs.replies.window_reply.Goals as goal
 
 pub returns-in_default : goal.returns-in_default

@@ -2,7 +2,6 @@ use mathlib.Core.Path.{sym, subst}
 use Rattle.sheets.specs.declared.withdrawal.Withdrawal.TheVariants.{Written}
 use Rattle.sheets.proofs.AnsweredLaws.{set_written_fits}
 use Rattle.answers.specs.Room.{Within}
-use borrow.Author.Rules.{rules}
 use Rattle.answers.proofs.replies.withdrawal_reply.Goals as goal
 
 pub returns : goal.returns
