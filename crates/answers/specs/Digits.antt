@@ -1,5 +1,6 @@
 -- A number as text.
-use Rattle.std.specs.Prelude.{ℕ, zero, suc, ◌+◌, ◌-◌, ◌/◌, ◌%◌, ◌^◌, ◌<◌, ◌≤◌, cond, List, [], ◌∷◌, ◌++◌, nat_lt}
+use Rattle.std.specs.Prelude.{ℕ, zero, suc, ◌+◌, ◌-◌, ◌/◌, ◌%◌, ◌^◌, ◌<◌, ◌≤◌, nat_lt}
+use Rattle.std.specs.Prelude.{cond, List, [], ◌∷◌, ◌++◌}
 
 -- the ASCII code of a digit below 16: `0` to `9`, then `a` to `f`
 abbrev pub hex_digit_ascii : ℕ → ℕ

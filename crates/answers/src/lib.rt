@@ -1,5 +1,5 @@
-// What the programs share: arguments, numbers, dates and lists of judgments in text, a sheet or a list read from standard
-// input or a file, the text that is answered, and a new file.
+// What the programs share: arguments, numbers, dates and lists of judgments in text, a sheet or a list read from
+// standard input or a file, the text that is answered, a new file, and failures said on standard error.
 #![tactic(auto)]
 
 pub mod arguments;

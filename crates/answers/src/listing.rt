@@ -80,7 +80,8 @@ pub fn read_list(text: &[u8], numbers: &mut [u32; 5120]) -> Listing
     let mut count = 0;
     let mut at = 0;
     while at < text.len() {
-        if count == 1024 {
+        let full = count == 1024;
+        if full {
             return Listing::TooMany;
         }
         let end = place_of(text, at, b'\n');

@@ -65,7 +65,8 @@ fn convert_admitted(
     ensures answer { result ≡ convert_admitted sheet.now terms contexts lines (length out.old) }
     ensures left { out.new ≡ output_from (converted sheet.now) out.old result }
 {
-    if NEW_EDITION <= edition_of(sheet) {
+    let up_to_date = NEW_EDITION <= edition_of(sheet);
+    if up_to_date {
         return Conversion::Refused {
             number: 20,
             place: 0,

@@ -89,7 +89,8 @@ fn row_answer(
             return RowAnswer::Fault(6);
         }
         let size = row_size(row, sizes);
-        if 65535 < size {
+        let too_large = 65535 < size;
+        if too_large {
             return RowAnswer::Fault(7);
         }
         RowAnswer::Size(size as u32)

@@ -25,4 +25,5 @@ loop-rest-preserved c =
 pub returns : goal.returns
 returns c =
     let l = c.loop-rest in
-    (omega arith, lt-pow_of_div-zero c.args.n 10 l.count l.count (omega arith) (omega arith) (omega arith), λ more. l.invariant.3 (omega arith))
+    let held = lt-pow_of_div-zero c.args.n 10 l.count l.count (omega arith) (omega arith) (omega arith) in
+    (omega arith, held, λ more. l.invariant.3 (omega arith))

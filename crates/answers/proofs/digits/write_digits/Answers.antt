@@ -41,6 +41,8 @@ loop-i-preserved c =
     let a = c.args in (
       simp length-set l.invariant.0,
       omega arith,
-      digits_step 10 l.i a.count l.rest c.digit_to_ascii.result l.out c.loop-i-test.true l.invariant.1 (omega arith) c.digit_to_ascii.ensures ∙ l.invariant.2,
+      digits_step 10 l.i a.count l.rest c.digit_to_ascii.result l.out c.loop-i-test.true
+          l.invariant.1 (omega arith) c.digit_to_ascii.ensures
+          ∙ l.invariant.2,
       drop-set-lt a.count l.out (l.i - 1) _ (omega arith) ∙ l.invariant.3,
     )

@@ -5,20 +5,20 @@ use Rattle.answers.proofs.listing.read_list.Goals as goal
 pub loop-at-init : goal.loop-at-init
 loop-at-init c = no_lines _ _
 
-pub returns-then-count-eq1024 : goal.returns-then-count-eq1024
-returns-then-count-eq1024 c =
-    let whole = too_many c.loop-at.invariant c.loop-at-test.true c.if-count-eq1024.true in
+pub returns-then-full : goal.returns-then-full
+returns-then-full c =
+    let whole = too_many c.loop-at.invariant c.loop-at-test.true c.if-full.true in
     record { answer = whole.0; numbers = whole.1.0; room = whole.1.1 }
 
 pub returns-in_default : goal.returns-in_default
 returns-in_default c =
-    let whole = no_judgment_lem c.loop-at.invariant c.loop-at-test.true c.if-count-eq1024.false
+    let whole = no_judgment_lem c.loop-at.invariant c.loop-at-test.true c.if-full.false
     c.place_of-end.ensures.value c.request_in.ensures c.in_default.is in
     record { answer = whole.0; numbers = whole.1.0; room = whole.1.1 }
 
 pub put_judgment-requires : goal.put_judgment-requires
 put_judgment-requires c =
-    omega (arith, c.loop-at.invariant.room, c.if-count-eq1024.false, c.loop-at.invariant.put.room)
+    omega (arith, c.loop-at.invariant.room, c.if-full.false, c.loop-at.invariant.put.room)
 
 pub loop-at-smaller : goal.loop-at-smaller
 loop-at-smaller c =
@@ -26,7 +26,7 @@ loop-at-smaller c =
 
 pub loop-at-preserved : goal.loop-at-preserved
 loop-at-preserved c =
-    line_read c.loop-at.invariant c.loop-at-test.true c.if-count-eq1024.false
+    line_read c.loop-at.invariant c.loop-at-test.true c.if-full.false
     c.place_of-end.ensures.value c.request_in.ensures c.in-Judgment.is
     c.put_judgment.ensures c.behind-at.ensures
 

@@ -10,15 +10,15 @@ pub row_size-size-requires : goal.row_size-size-requires
 row_size-size-requires c =
     fits_known _ c.args.sizes.now _ _ c.fits.ensures c.if-fits.true c.requires.1
 
-pub returns-then-size-gt65535 : goal.returns-then-size-gt65535
-returns-then-size-gt65535 c =
+pub returns-then-too_large : goal.returns-then-too_large
+returns-then-too_large c =
     let size = c.row_size-size.ensures _ _ c.requires.3 in
-    answer_7 _ _ c.args.sizes.now _ _ c.requires.3 c.fits.ensures c.if-fits.true _ c.repeated.ensures c.if-repeated.false _ size c.if-size-gt65535.true
+    answer_7 _ _ c.args.sizes.now _ _ c.requires.3 c.fits.ensures c.if-fits.true _ c.repeated.ensures c.if-repeated.false _ size c.if-too_large.true
 
-pub returns-else-size-gt65535 : goal.returns-else-size-gt65535
-returns-else-size-gt65535 c =
+pub returns-else-too_large : goal.returns-else-too_large
+returns-else-too_large c =
     let size = c.row_size-size.ensures _ _ c.requires.3 in
-    answer_size _ _ c.args.sizes.now _ _ c.requires.3 c.fits.ensures c.if-fits.true _ c.repeated.ensures c.if-repeated.false _ size c.if-size-gt65535.false
+    answer_size _ _ c.args.sizes.now _ _ c.requires.3 c.fits.ensures c.if-fits.true _ c.repeated.ensures c.if-repeated.false _ size c.if-too_large.false
 
 pub returns-else-fits : goal.returns-else-fits
 returns-else-fits c =
