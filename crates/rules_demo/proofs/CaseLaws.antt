@@ -12,7 +12,7 @@ use Rattle.terms.specs.Sizes.{check_terms}
 use Rattle.terms.specs.declared.sizes.TermsAnswer.{TermsAnswer}
 use Rattle.terms.specs.declared.sizes.TermsAnswer.TheVariants as term
 use Rattle.terms.proofs.Tests.{never, says_yes, says_no, says_le, says_lt, says_eq, decides_via, ◌&◌}
-use Rattle.terms.proofs.TableLaws as terms-check
+use Rattle.terms.proofs.TableLaws as terms_check
 use Rattle.rules.specs.Contexts.{check_contexts}
 use Rattle.rules.specs.Subjects.{last_form, uses_subject, subjects_of, use_of}
 use Rattle.rules.specs.RuleTable.{rule_known, form_of, premise_count}
@@ -23,7 +23,7 @@ use Rattle.rules.specs.declared.judgments.SubjectUse.{SubjectUse}
 use Rattle.rules.specs.declared.contexts.ContextsAnswer.{ContextsAnswer}
 use Rattle.rules.specs.declared.contexts.ContextsAnswer.TheVariants as context
 use Rattle.rules.proofs.SubjectLaws.{unused_past, by_place, says_context}
-use Rattle.rules.proofs.ContextTableCheckLaws as contexts-check
+use Rattle.rules.proofs.ContextTableCheckLaws as contexts_check
 use Rattle.rules.proofs.ArmLaws.{numbered_taken}
 use Rattle.rules.proofs.RuleTableEntries.{says_rule}
 use Rattle.rules_demo.specs.Cases.{Tables, Case}

@@ -1,7 +1,6 @@
 -- Reading numbers byte by byte: the place behind each byte, and the numbers put so far.
 -- Assumes nothing.
 use mathlib.Core.Path.{◌≡◌, refl, sym, ◌∙◌, ap, subst}
-use mathlib.Core.Logic.{⊎_elim}
 use mathlib.Core.List.{List, [], ◌∷◌, ◌++◌, append_assoc, append-nil}
 use Prim.Native.Nat.{ℕ, ◌+◌, ◌-◌, ◌*◌, ◌/◌, ◌%◌, ◌≤◌, ◌<◌}
 use native.Mathlib.Nat.{add-mul-mod_self_left}
@@ -9,15 +8,12 @@ use native.Mathlib.Numerals.{add-one}
 use native.Mathlib.Omega.{arith}
 use lib.ListN.{length, get_or, drop, drop_of_length-le}
 use lib.Seq.{drop-cons}
-use types.Run.{OneOf}
-use denote.Enum.Declared.{tag_of}
 use borrow.Author.Tests.{eq-eqb, ne_eqb, le-leb, lt-leb}
 use Rattle.rules_demo.specs.declared.numbers.Place.{Place}
 use Rattle.rules_demo.specs.declared.numbers.Place.TheVariants.{Blank, Comment, Number}
 use Rattle.rules_demo.specs.Numbers.{is_digit, place_behind, next_place, ended, numbers_from, numbers_in}
 use Rattle.rules_demo.specs.WordBuffer.{WordsPut}
 use Rattle.rules_demo.proofs.WordBufferLaws.{none_put, joined}
-use Rattle.rules_demo.specs.contracts.numbers.Place.{the_type}
 
 -- the ways on from a byte that is in no comment
 module _ (value byte : ℕ) where
@@ -46,18 +42,14 @@ module _ (value byte : ℕ) where
   unfolding place_behind is_digit
   above_digits high = rw (ne_eqb byte 35 (λ q. omega arith), le-leb 48 byte (omega arith), lt-leb byte 57 high)
 
--- the place is one of the first two variants
 abbrev NoNumber : Place → Type 0
-NoNumber place = OneOf (0 ∷ 1 ∷ []) (tag_of the_type place)
-
-no_number : (value : ℕ) → NoNumber (Number value) → ⊥
-no_number value h = ⊎_elim (λ e. omega arith) (λ e. omega arith) h
+NoNumber place = (value : ℕ) → place ≡ Number value → ⊥
 
 pub none_ends : (place next : Place) → NoNumber place → ended place next ≡ []
 unfolding ended
 none_ends Blank next h = refl
 none_ends Comment next h = refl
-none_ends (Number value) next h = absurd (no_number value h)
+none_ends (Number value) next h = absurd (h value refl)
 
 pub not_ended : (place next : Place) (value more : ℕ) → place ≡ Number value → next ≡ Number more
     → ended place next ≡ []
@@ -72,7 +64,7 @@ one_ends place next value e h = rw e (number_ends next h)
     number_ends : (next : Place) → NoNumber next → ended (Number value) next ≡ value ∷ []
     number_ends Blank h = refl
     number_ends Comment h = refl
-    number_ends (Number more) h = absurd (no_number more h)
+    number_ends (Number more) h = absurd (h more refl)
 
 -- after i bytes the numbers that have ended are put, and those of the rest of the text, read from the place, come next
 pub record ReadSoFar (text before after : List ℕ) (count : ℕ) (place : Place) (i : ℕ) : Type 0 where
