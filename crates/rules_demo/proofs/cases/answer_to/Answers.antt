@@ -1,8 +1,6 @@
 -- A case over sound tables is what `follows` asks for; each answer then says what the two tests said.
 -- Assumes nothing.
 use mathlib.Core.List.{[], ◌∷◌}
-use borrow.Author.Rules.{rules}
-use Rattle.terms.proofs.Tests.{refuted}
 use Rattle.rules_demo.proofs.CaseLaws.{case_in_tables}
 use Rattle.rules_demo.proofs.cases.answer_to.Goals as goal
 

@@ -1,6 +1,5 @@
 -- The tests together are `Case`.
 -- Assumes nothing.
-use borrow.Author.Rules.{rules}
 use Rattle.rules_demo.proofs.CaseLaws.{case_says}
 use Rattle.rules_demo.proofs.cases.is_case.Goals as goal
 

@@ -1,6 +1,5 @@
 -- The five tests together are `Numbered`.
 -- Assumes nothing.
-use borrow.Author.Rules.{rules}
 use Rattle.rules_demo.proofs.CaseLaws.{numbered_says}
 use Rattle.rules_demo.proofs.cases.is_numbered.Goals as goal
 

@@ -1,6 +1,5 @@
 -- Each word is the one that stands at its place.
 -- Assumes nothing.
-use borrow.Author.Rules.{rules}
 use Rattle.rules_demo.specs.Cases.{judgment_from, case_judgment}
 use Rattle.rules_demo.proofs.cases.judgment_at.Goals as goal
 

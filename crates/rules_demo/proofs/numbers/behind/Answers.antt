@@ -1,7 +1,6 @@
 -- Each arm by the law of its bytes.
 -- Assumes nothing.
 use native.Mathlib.Omega.{arith}
-use borrow.Author.Rules.{rules}
 use Rattle.rules_demo.proofs.ReaderLaws.{comment_behind, digit_behind, below_digits, above_digits}
 use Rattle.rules_demo.proofs.numbers.behind.Goals as goal
 

@@ -1,6 +1,5 @@
 -- Each arm by the place that it is for.
 -- Assumes nothing.
-use borrow.Author.Rules.{rules}
 use borrow.Author.Tests.{eq-eqb, ne_eqb}
 use Rattle.rules_demo.specs.Numbers.{next_place}
 use Rattle.rules_demo.proofs.numbers.next_place.Goals as goal

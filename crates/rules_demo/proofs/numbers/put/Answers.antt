@@ -1,8 +1,5 @@
 -- Without room nothing is put; the two stores put one word.
 -- Assumes nothing.
-use native.Mathlib.Omega.{arith}
-use lib.ListN.{length-set}
-use borrow.Author.Rules.{rules}
 use Rattle.rules_demo.proofs.WordBufferLaws.{full, one_put}
 use Rattle.rules_demo.proofs.numbers.put.Goals as goal
 

@@ -1,5 +1,3 @@
-use Prim.Native.Nat.{◌-◌}
-use borrow.Author.Rules.{rules}
 use Rattle.rules_demo.proofs.ReaderLaws.{start, goes_on, finished}
 use Rattle.rules_demo.proofs.numbers.put_all.Goals as goal
 

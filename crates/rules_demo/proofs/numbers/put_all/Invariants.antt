@@ -2,7 +2,6 @@
 -- Assumes nothing.
 use Prim.Native.Nat.{◌-◌}
 use lib.ListN.{length}
-use borrow.Author.Rules.{rules}
 use Rattle.rules_demo.proofs.ReaderLaws.{ReadSoFar}
 use Rattle.rules_demo.proofs.numbers.put_all.Given as goal
 

@@ -1,6 +1,5 @@
 -- A number ends only between a number and a place that is none; then it is put.
 -- Assumes nothing.
-use borrow.Author.Rules.{rules}
 use Rattle.rules_demo.proofs.ReaderLaws.{none_ends, not_ended, one_ends}
 use Rattle.rules_demo.proofs.WordBufferLaws.{none_put}
 use Rattle.rules_demo.proofs.numbers.put_ended.Goals as goal

@@ -1,6 +1,5 @@
 -- Each way out by the law of the check that took it.
 -- Assumes nothing.
-use borrow.Author.Rules.{rules}
 use Rattle.rules_demo.proofs.CaseLaws.{faulty_terms_lem, faulty_contexts_lem, faultless_tables}
 use Rattle.rules_demo.proofs.tables.are_sound.Goals as goal
 
