@@ -13,7 +13,7 @@ abbrev pub judgment_at : List Judgment → ℕ → Judgment
 judgment_at js i = get_or js i (wf [])
 
 -- judgment i is the conclusion of an instance of a rule that the edition admits (any other has row 0, and row 0 has no
--- instance: law rules_admitted), whose premises stand at places before i; law step-is: they all stand in the list
+-- instance: law rules_admitted), whose premises stand at places before i; law step_is: they all stand in the list
 -- before judgment i
 pub record Step (edition : ℕ) (js : List Judgment) (i : ℕ) : Type 0 where
   pub rule : ℕ

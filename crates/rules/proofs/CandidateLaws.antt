@@ -1,4 +1,4 @@
--- The laws of the rules, `rule-n` in ContextLaws, TypingLaws, EqualityLaws, SubtypingLaws and NormalisationLaws. Each
+-- The laws of the rules, `rule_n` in ContextLaws, TypingLaws, EqualityLaws, SubtypingLaws and NormalisationLaws. Each
 -- says, of any judgments of the forms that the rule's row names (in NormalisationLaws, of any in the empty context),
 -- that they are an instance of rule n exactly if their parts meet a product of equations (in rule 38 one of them is a
 -- choice of two), which is what a check of the rule tests. G and c₁ c₂ c₃ are the conclusion's context and its subjects

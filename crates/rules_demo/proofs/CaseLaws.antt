@@ -91,6 +91,12 @@ module _ (t n : ℕ) where
         }
 
     -- the ways out of the check of both tables
+    pub many_terms : 3072 < t → Decides false (Tables terms t contexts n)
+    many_terms h = says_no (λ s. omega (arith, s.few_terms))
+
+    pub many_contexts : 256 < n → Decides false (Tables terms t contexts n)
+    many_contexts h = says_no (λ s. omega (arith, s.few))
+
     module _ (long : 10 * t ≤ length terms) (a : TermsAnswer) (e : a ≡ (check_terms terms t).answer) where
       pub faulty_terms_lem : (number place : ℕ) → a ≡ term.Faulty number place → Decides false (Tables terms t contexts n)
       faulty_terms_lem number place f = says_no (λ s. let g = (terms_check.check_faultless terms t long).1 s.term_table in let z : ◌≡◌ {A = ℕ} 0 1 = cc in omega arith)

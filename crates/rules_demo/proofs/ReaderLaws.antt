@@ -42,14 +42,18 @@ module _ (value byte : ℕ) where
   unfolding place_behind is_digit
   above_digits high = rw (ne_eqb byte 35 (λ q. omega arith), le-leb 48 byte (omega arith), lt-leb byte 57 high)
 
+-- the place is none of a number
 abbrev NoNumber : Place → Type 0
 NoNumber place = (value : ℕ) → place ≡ Number value → ⊥
+
+no_number : (value : ℕ) → NoNumber (Number value) → ⊥
+no_number value h = h value refl
 
 pub none_ends : (place next : Place) → NoNumber place → ended place next ≡ []
 unfolding ended
 none_ends Blank next h = refl
 none_ends Comment next h = refl
-none_ends (Number value) next h = absurd (h value refl)
+none_ends (Number value) next h = absurd (no_number value h)
 
 pub not_ended : (place next : Place) (value more : ℕ) → place ≡ Number value → next ≡ Number more
     → ended place next ≡ []
@@ -64,7 +68,7 @@ one_ends place next value e h = rw e (number_ends next h)
     number_ends : (next : Place) → NoNumber next → ended (Number value) next ≡ value ∷ []
     number_ends Blank h = refl
     number_ends Comment h = refl
-    number_ends (Number more) h = absurd (h more refl)
+    number_ends (Number more) h = absurd (no_number more h)
 
 -- after i bytes the numbers that have ended are put, and those of the rest of the text, read from the place, come next
 pub record ReadSoFar (text before after : List ℕ) (count : ℕ) (place : Place) (i : ℕ) : Type 0 where

@@ -5,6 +5,8 @@ use mathlib.Core.List.{List}
 use Prim.Native.Nat.{ℕ, suc, ◌+◌, ◌-◌, ◌≤◌, ◌<◌, min}
 use native.Mathlib.Omega.{arith}
 use lib.ListN.{length, take, drop}
+use lib.Seq.{length-take-le}
+use Rattle.answers.specs.Counts.{IsPrefixLen}
 use Rattle.answers.specs.Parts.{up_to}
 use Rattle.answers.proofs.PartLaws.{part_is, rest_is}
 use Rattle.samples.specs.Text.{word_of, behind_lines}
@@ -14,6 +16,12 @@ pub record WordsPassed (line : List ℕ) (n start passed : ℕ) : Type 0 where
   pub few : passed ≤ n
   pub within : start ≤ length line
   pub word : word_of n line ≡ word_of (n - passed) (drop start line)
+
+pub no_words_passed : (line : List ℕ) (n : ℕ) → WordsPassed line n 0 0
+no_words_passed line n = record { few = omega arith; within = omega arith; word = ap (λ m. word_of m line) all }
+  where
+    all : n ≡ n - 0
+    all = omega arith
 
 module _ {line : List ℕ} {n start passed place : ℕ} (so_far : WordsPassed line n start passed)
     (is : place ≡ start + length (up_to 32 (drop start line))) where
@@ -46,6 +54,17 @@ pub record LinesPassed (text : List ℕ) (from count place passed : ℕ) : Type 
   pub within : place ≤ length text
   pub rest : behind_lines (count - passed) (drop place text) ≡ behind_lines count (drop from text)
 
+pub no_lines_passed : (text : List ℕ) (from count : ℕ) → from ≤ length text → LinesPassed text from count from 0
+no_lines_passed text from count h = record {
+  few = omega arith;
+  behind = omega arith;
+  within = h;
+  rest = ap (λ n. behind_lines n (drop from text)) all;
+}
+  where
+    all : count - 0 ≡ count
+    all = omega arith
+
 module _ {text : List ℕ} {from count place passed : ℕ} (so_far : LinesPassed text from count place passed) where
   pub line_passes : {end next : ℕ} → end ≡ place + length (up_to 10 (drop place text)) → passed < count
       → next ≡ min (end + 1) (length text) → LinesPassed text from count next (passed + 1)
@@ -63,9 +82,13 @@ module _ {text : List ℕ} {from count place passed : ℕ} (so_far : LinesPassed
       left = omega arith
 
   -- all are passed
-  pub lines_passed : count ≤ passed → drop place text ≡ behind_lines count (drop from text)
+  pub lines_passed : count ≤ passed
+      → (drop place text ≡ behind_lines count (drop from text)) × ((from ≤ place) × IsPrefixLen place text)
   unfolding behind_lines
-  lines_passed end = sym (ap (λ n. behind_lines n (drop place text)) none) ∙ so_far.rest
+  lines_passed end = (
+    sym (ap (λ n. behind_lines n (drop place text)) none) ∙ so_far.rest,
+    (so_far.behind, (so_far.within, sym (length-take-le place text so_far.within))),
+  )
     where
       none : count - passed ≡ 0
       none = omega arith
