@@ -55,7 +55,8 @@ pub fn motive_given_by(terms: &[u8], contexts: &[u8], p: LineJudgment) -> usize
     }
     let entry = type_of(contexts, p.context);
     if is_node(terms, entry, Node::Nat) & is_universe(terms, p.s3) {
-        return motive_number(parent(contexts, p.context), p.s1);
+        let above = parent(contexts, p.context);
+        return motive_number(above, p.s1);
     }
     0
 }

@@ -30,22 +30,22 @@ is_universe-requires c =
     let given = c.requires in
     term_rows given.given ((subjects_below _ _ 1 _ given.numbered.0 (typed (goal.at.is_universe-requires c).Else-p).0).1.0, tt)
 
-pub parent-requires : goal.parent-requires
-parent-requires c =
-    context_row c.requires (typed (goal.at.parent-requires c).Else-p)
+pub parent-above-requires : goal.parent-above-requires
+parent-above-requires c =
+    context_row c.requires (typed (goal.at.parent-above-requires c).Else-p)
 
 pub motive_number-requires : goal.motive_number-requires
 motive_number-requires c =
     let small = numbers_small c.requires (typed (goal.at.motive_number-requires c).Else-p) in
-    (omega (arith, c.parent.ensures.value), omega arith)
+    (omega (arith, c.parent-above.ensures.value), omega arith)
 
 pub returns-then-is_node-is_universe : goal.returns-then-is_node-is_universe
 returns-then-is_node-is_universe c =
     let small = numbers_small c.requires (typed (goal.at.returns-then-is_node-is_universe c).Else-p) in record {
       number = motive_given _ _ _ (typed (goal.at.returns-then-is_node-is_universe c).Else-p) _ c.type_of-entry.ensures.value _ _
-          c.parent.ensures.value c.motive_number.ensures
+          c.parent-above.ensures.value c.motive_number.ensures
           ((c.is_node.ensures & c.is_universe.ensures).0 c.if-is_node-is_universe.true);
-      range = omega (arith, c.motive_number.ensures, c.parent.ensures.value);
+      range = omega (arith, c.motive_number.ensures, c.parent-above.ensures.value);
     }
 
 pub returns : goal.returns
