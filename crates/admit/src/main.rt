@@ -7,12 +7,8 @@ use std::io;
 
 fn main(rt: HostRuntime) -> io::Result<()> {
     let mut sheet = [0u8; 52241];
-    let input = read_sheet(&rt, &mut rt.reader(), &mut sheet);
-    let length = input.length;
-    if input.whole {
-        let mut text = [0u8; 80];
-        let count = admission_reply(&sheet[..length], &mut text);
-        rt.write_all(&text[..count])?;
+    if let Ok(length) = read_sheet(&rt, &mut rt.reader(), &mut sheet) {
+        rt.write_all(admission_reply(&sheet[..length]).as_bytes())?;
     }
     Ok(())
 }

@@ -1,16 +1,15 @@
 -- Which texts spell a date: three numerals parted by hyphens, and no other.
 -- Assumes nothing.
-use mathlib.Core.Path.{◌≡◌, refl, sym, ◌∙◌, ap, subst}
+use mathlib.Core.Path.{◌≡◌, refl, sym, ◌∙◌, ap}
 use mathlib.Core.Logic.{◌↔◌, ◌⊎◌, inl, inr}
 use mathlib.Core.Bool.{Bool, true, false, cond, false≢true}
 use mathlib.Core.List.{List, [], ◌∷◌, ◌++◌}
 use Prim.Native.Nat.{ℕ}
 use native.Mathlib.Omega.{arith}
+use Rattle.std.specs.Prelude.{Option, Some, None, unwrap_or}
+use Rattle.std.proofs.lemmas.Option.{none-some}
 use Rattle.windows.specs.declared.dates.Date.{Date}
 use Rattle.windows.specs.Dates.{date_of}
-use Rattle.answers.specs.declared.numbers.Reading.TheVariants.{Number, Unreadable}
-use Rattle.answers.specs.declared.dates.DateReading.{DateReading}
-use Rattle.answers.specs.declared.dates.DateReading.TheVariants.{Spelled, Unreadable as unreadable_date}
 use Rattle.answers.specs.Numbers.{is_digit, all_digits, is_numeral, spelled}
 use Rattle.answers.specs.Parts.{up_to, past}
 use Rattle.answers.specs.Dates.{numeral_of, date_from, date_in, Numeral, SpellsDate}
@@ -18,7 +17,7 @@ use Rattle.answers.proofs.PartedLaws.{parted, some_before, digits_before}
 
 -- a text is a numeral and is read as what it spells, or it is not read
 abbrev IsRead : List ℕ → Type 0
-IsRead text = (Numeral text × (numeral_of text ≡ Number (spelled 0 text))) ⊎ (numeral_of text ≡ Unreadable)
+IsRead text = (Numeral text × (numeral_of text ≡ Some (spelled 0 text))) ⊎ (numeral_of text ≡ None)
 
 pub numeral_is : (text : List ℕ) → (is_numeral text ≡ true) ↔ Numeral text
 unfolding is_numeral
@@ -33,11 +32,11 @@ read? text = pick (is_numeral text) refl
     n = spelled 0 text
 
     pick : (all : Bool) → is_numeral text ≡ all
-        → (Numeral text × (cond all (Number n) Unreadable ≡ Number n)) ⊎ (cond all (Number n) Unreadable ≡ Unreadable)
+        → (Numeral text × (cond all (Some n) None ≡ Some n)) ⊎ (cond all (Some n) None ≡ None)
     pick true e = inl ((numeral_is text).0 e, refl)
     pick false e = inr refl
 
-read_numeral : (text : List ℕ) → Numeral text → numeral_of text ≡ Number (spelled 0 text)
+read_numeral : (text : List ℕ) → Numeral text → numeral_of text ≡ Some (spelled 0 text)
 unfolding numeral_of
 read_numeral text n = rw ((numeral_is text).1 n)
 
@@ -47,28 +46,19 @@ before_hyphen : (digits rest : List ℕ) → all_digits digits ≡ true
 unfolding is_digit
 before_hyphen = digits_before 45 refl
 
--- the date that is spelled, if one is
-abbrev spelled_or : Date → DateReading → Date
-spelled_or other (Spelled d) = d
-spelled_or other unreadable_date = other
-
-abbrev HasDate : DateReading → Type 0
-HasDate (Spelled d) = Unit {0}
-HasDate unreadable_date = ⊥
-
 -- three numbers make a date if all are read
 all_read : (year month day : List ℕ) → IsRead year → IsRead month → IsRead day → (d : Date)
-    → date_from (numeral_of year) (numeral_of month) (numeral_of day) ≡ Spelled d
+    → date_from (numeral_of year) (numeral_of month) (numeral_of day) ≡ Some d
     → (Numeral year × Numeral month × Numeral day) × (d ≡ date_of (spelled 0 year) (spelled 0 month) (spelled 0 day))
 unfolding date_from
 all_read year month day (inl a) (inl b) (inl c) d e =
-    ((a.0, b.0, c.0), ap (spelled_or d) (sym e ∙ (λ i. date_from (a.1 i) (b.1 i) (c.1 i))))
+    ((a.0, b.0, c.0), ap (λ r. unwrap_or r d) (sym e ∙ (λ i. date_from (a.1 i) (b.1 i) (c.1 i))))
 all_read year month day (inl a) (inl b) (inr c) d e =
-    absurd (subst HasDate (sym e ∙ (λ i. date_from (a.1 i) (b.1 i) (c i))) tt)
+    absurd (none-some _ (sym (λ i. date_from (a.1 i) (b.1 i) (c i)) ∙ e))
 all_read year month day (inl a) (inr b) c d e =
-    absurd (subst HasDate (sym e ∙ (λ i. date_from (a.1 i) (b i) (numeral_of day))) tt)
+    absurd (none-some _ (sym (λ i. date_from (a.1 i) (b i) (numeral_of day)) ∙ e))
 all_read year month day (inr a) b c d e =
-    absurd (subst HasDate (sym e ∙ (λ i. date_from (a i) (numeral_of month) (numeral_of day))) tt)
+    absurd (none-some _ (sym (λ i. date_from (a i) (numeral_of month) (numeral_of day)) ∙ e))
 
 -- where month and day are numerals the text has two hyphens
 two_hyphens : (text : List ℕ) → Numeral (up_to 45 (past 45 text)) → Numeral (past 45 (past 45 text))
@@ -77,7 +67,7 @@ two_hyphens text month day =
     parted 45 text (some_before 45 (past 45 text) month.some)
     ∙ ap (λ l. up_to 45 text ++ (45 ∷ l)) (parted 45 (past 45 text) day.some)
 
-forth : (text : List ℕ) (d : Date) → date_in text ≡ Spelled d → SpellsDate text d
+forth : (text : List ℕ) (d : Date) → date_in text ≡ Some d → SpellsDate text d
 unfolding date_in
 forth text d e =
     let rest = past 45 text in
@@ -91,7 +81,7 @@ forth text d e =
       date = read.1;
     }
 
-back : (text : List ℕ) (d : Date) → SpellsDate text d → date_in text ≡ Spelled d
+back : (text : List ℕ) (d : Date) → SpellsDate text d → date_in text ≡ Some d
 unfolding date_in date_from
 back text d s =
     let y = before_hyphen s.year (s.month ++ (45 ∷ s.day)) s.numerals.0.digits in
@@ -105,16 +95,16 @@ back text d s =
     let d_read = read_numeral s.day s.numerals.2 in
     (λ i. date_from (numeral_of (year i)) (numeral_of (month i)) (numeral_of (day i)))
     ∙ (λ i. date_from (y_read i) (m_read i) (d_read i))
-    ∙ ap Spelled (sym s.date)
+    ∙ ap Some (sym s.date)
 
 -- a date is read exactly if the text spells it
-pub date_in_is : (text : List ℕ) (d : Date) → (date_in text ≡ Spelled d) ↔ SpellsDate text d
+pub date_in_is : (text : List ℕ) (d : Date) → (date_in text ≡ Some d) ↔ SpellsDate text d
 date_in_is text d = (forth text d, back text d)
 
 -- and none exactly if it spells none
-pub no_date_is : (text : List ℕ) → (date_in text ≡ unreadable_date) ↔ ((d : Date) → SpellsDate text d → ⊥)
-no_date_is text = (λ e d s. subst HasDate (sym (back text d s) ∙ e) tt, λ none. pick none (date_in text) refl)
+pub no_date_is : (text : List ℕ) → (date_in text ≡ None) ↔ ((d : Date) → SpellsDate text d → ⊥)
+no_date_is text = (λ e d s. none-some _ (sym e ∙ back text d s), λ none. pick none (date_in text) refl)
   where
-    pick : ((d : Date) → SpellsDate text d → ⊥) → (r : DateReading) → date_in text ≡ r → r ≡ unreadable_date
-    pick none (Spelled d) e = absurd (none d (forth text d e))
-    pick none unreadable_date e = refl
+    pick : ((d : Date) → SpellsDate text d → ⊥) → (r : Option Date) → date_in text ≡ r → r ≡ None
+    pick none (Some d) e = absurd (none d (forth text d e))
+    pick none None e = refl

@@ -1,13 +1,11 @@
-pub mod DigitLaws
 pub mod NumberLaws
 pub mod PartLaws
 pub mod PartedLaws
 pub mod DateLaws
-pub mod DatePartLaws
 pub mod DateTextLaws
-pub mod TextLaws
 pub mod BatchTextLaws
 pub mod ListingLaws
 pub mod JudgmentTextLaws
+pub mod LinePieceLaws
 pub mod ListTextLaws
-pub mod RoomLaws
+pub mod ReplyLaws

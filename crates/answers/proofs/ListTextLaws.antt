@@ -10,15 +10,15 @@ use native.Mathlib.Omega.{arith}
 use lib.ListN.{length, get_or, take, drop, length-take}
 use lib.Seq.{take_all, take-take, take_at, get_or-take, ext_get_or}
 use borrow.Author.Tests.{eq-eqb, ne_eqb}
+use Rattle.std.specs.Prelude.{Option, Some, None, Result}
+use Rattle.answers.specs.declared.listing.ListError.{ListError}
 use Rattle.sheets.specs.declared.finding.Wanted.{Wanted}
 use Rattle.sheets.specs.Batch.{wanted_of, wanted_at, wanted_in}
 use Rattle.sheets.proofs.BatchLaws.{wanted_count, wanted_at_lem}
-use Rattle.answers.specs.declared.numbers.Request.{Request}
-use Rattle.answers.specs.declared.numbers.Request.TheVariants.{Judgment, Unreadable as no_request}
-use Rattle.answers.specs.declared.listing.Listing.{Listing}
 use Rattle.answers.specs.Listing.{lines_of, request_in, before, judgments_in, judgments_of, numbers_of}
 use Rattle.answers.specs.Listing.{numbers_after, listing_of}
 use Rattle.answers.specs.Listing.{SpellsJudgment, Spell, none, one, ListingMeans, all, full, wrong}
+use Rattle.answers.proofs.ListingLaws.{words_long}
 use Rattle.answers.proofs.JudgmentTextLaws.{request_in_is, no_request_is}
 
 -- line i is the first that spells no judgment
@@ -58,11 +58,11 @@ spelled? : (lines : List (List ℕ)) → Spelled lines
 spelled? [] = whole none
 spelled? (line ∷ lines) = pick (request_in line) refl (spelled? lines)
   where
-    pick : (r : Request) → request_in line ≡ r → Spelled lines → Spelled (line ∷ lines)
-    pick no_request e rest =
+    pick : (r : Option Wanted) → request_in line ≡ r → Spelled lines → Spelled (line ∷ lines)
+    pick None e rest =
         until 0 (record { inside = omega arith; spelled = none; unspelled = (no_request_is line).0 e })
-    pick (Judgment w) e (whole s) = whole (one ((request_in_is line w).0 e) s)
-    pick (Judgment w) e (until i s) =
+    pick (Some w) e (whole s) = whole (one ((request_in_is line w).0 e) s)
+    pick (Some w) e (until i s) =
         until (suc i)
         (record {
           inside = omega (arith, s.inside);
@@ -72,11 +72,11 @@ spelled? (line ∷ lines) = pick (request_in line) refl (spelled? lines)
 
 module _ (text : List ℕ) where
   -- there is an answer that has its meaning
-  means? : (r : Listing) × ListingMeans text r
+  means? : (r : Result ℕ ListError) × ListingMeans text r
   means? = pick (spelled? (take 1024 (lines_of text))) (dec_le (length (lines_of text)) 1024)
     where
       pick : Spelled (take 1024 (lines_of text)) → Dec (length (lines_of text) ≤ 1024)
-          → (r : Listing) × ListingMeans text r
+          → (r : Result ℕ ListError) × ListingMeans text r
       pick (whole {ws = ws} s) (yes few) =
           let same = take_all 1024 (lines_of text) few in
           (_, all (subst (λ l. Spell l ws) same s) (omega (arith, spell_long s, ap length same)))
@@ -92,7 +92,7 @@ module _ (text : List ℕ) where
           )
 
   -- and it is the answer that is given
-  meant : {r : Listing} → ListingMeans text r → listing_of text ≡ r
+  meant : {r : Result ℕ ListError} → ListingMeans text r → listing_of text ≡ r
   unfolding listing_of judgments_of
   meant (all {ws = ws} s h) =
       let few : length (lines_of text) ≤ 1024 = omega (arith, spell_long s) in
@@ -119,7 +119,7 @@ module _ (text : List ℕ) where
       )
 
   -- an answer is given exactly if it has its meaning
-  pub listing_is : (r : Listing) → (listing_of text ≡ r) ↔ ListingMeans text r
+  pub listing_is : (r : Result ℕ ListError) → (listing_of text ≡ r) ↔ ListingMeans text r
   listing_is r = (λ e. subst (ListingMeans text) (sym (meant means?.1) ∙ e) means?.1, meant)
 
   -- the judgments of a list that is read whole are those that its lines spell
@@ -129,11 +129,6 @@ module _ (text : List ℕ) where
       ap judgments_in (take_all 1024 (lines_of text) (omega (arith, spell_long s))) ∙ all_spelled s
 
 -- the words of judgments, five each, are read back as they were
-words_long : (ws : List Wanted) → length (numbers_of ws) ≡ 5 * length ws
-unfolding numbers_of
-words_long [] = refl
-words_long (w ∷ ws) = omega (arith, words_long ws)
-
 words_at : (ws : List Wanted) (i : ℕ) → i < length ws → wanted_of (drop (5 * i) (numbers_of ws)) ≡ wanted_at ws i
 unfolding wanted_of numbers_of
 words_at [] i h = absurd (omega arith)

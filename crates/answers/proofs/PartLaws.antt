@@ -1,63 +1,53 @@
 -- The place of a byte in a text, found byte by byte.
 -- Assumes nothing.
-use mathlib.Core.Path.{◌≡◌, refl, sym, ◌∙◌, ap}
-use mathlib.Core.Bool.{Bool, true, false, cond}
+use mathlib.Core.Path.{◌≡◌, refl, sym, ◌∙◌, ap, subst}
+use mathlib.Core.Bool.{Bool, true, false, cond, not}
 use mathlib.Core.List.{List, [], ◌∷◌}
-use Prim.Native.Nat.{ℕ, suc, ◌+◌, ◌-◌, ◌≤◌, ◌<◌, min}
-use native.Mathlib.Numerals.{add-one}
+use Prim.Native.Nat.{ℕ, suc, ◌+◌, ◌-◌, ◌≤◌, min}
 use native.Mathlib.Omega.{arith}
-use lib.ListN.{length, get_or, take, drop, length-drop, drop_of_length-le}
-use lib.Seq.{drop-cons, drop-drop, length-take-le}
-use lib.Dec.{eqb}
-use borrow.Author.Tests.{eq-eqb, ne_eqb}
-use Rattle.answers.specs.Counts.{IsPrefixLen}
+use lib.ListN.{length, take, drop, length-drop}
+use lib.Seq.{drop-drop, take_all}
+use lib.Dec.{eqb, ltb}
+use borrow.Author.Tests.{ltb-false}
+use Rattle.std.specs.Prelude.{Option, Some, None, MatchOption}
+use Rattle.std.specs.List.{position, position_or_len}
 use Rattle.answers.specs.Parts.{up_to, past}
 
--- what `place_of` ensures
-abbrev IsPlace : List ℕ → ℕ → ℕ → ℕ → Type 0
-IsPlace text from byte i = (i ≡ from + length (up_to byte (drop from text))) × ((from ≤ i) × IsPrefixLen i text)
+-- the part before the first such byte is as long as what std's search passes over
+passed_is : (byte : ℕ) (text : List ℕ) → position_or_len (λ b. eqb b byte) text ≡ length (up_to byte text)
+unfolding up_to
+passed_is byte [] = refl
+passed_is byte (first ∷ text) = pick (eqb first byte) (passed_is byte text)
+  where
+    pick : (same : Bool) → position_or_len (λ b. eqb b byte) text ≡ length (up_to byte text)
+        → cond (not same) (1 + position_or_len (λ b. eqb b byte) text) 0 ≡ length (cond same [] (first ∷ up_to byte text))
+    pick true rest = refl
+    pick false rest = omega (arith, rest)
 
--- the byte is not among those before place i
-pub record Passed (text : List ℕ) (from byte i : ℕ) : Type 0 where
-  pub behind : from ≤ i
-  pub within : i ≤ length text
-  pub place : from + length (up_to byte (drop from text)) ≡ i + length (up_to byte (drop i text))
+up_to_short : (byte : ℕ) (text : List ℕ) → length (up_to byte text) ≤ length text
+unfolding up_to
+up_to_short byte [] = omega arith
+up_to_short byte (first ∷ text) = pick (eqb first byte) (up_to_short byte text)
+  where
+    pick : (same : Bool) → length (up_to byte text) ≤ length text
+        → length (cond same [] (first ∷ up_to byte text)) ≤ suc (length text)
+    pick true rest = omega arith
+    pick false rest = omega (arith, rest)
 
-pub none_passed : (text : List ℕ) (from byte : ℕ) → from ≤ length text → Passed text from byte from
-none_passed text from byte h = record { behind = omega arith; within = h; place = refl }
+abbrev IsPosition : ℕ → List ℕ → Option ℕ → Type 0
+IsPosition byte text r = MatchOption r (length (up_to byte text) ≡ length text) (λ k. k ≡ length (up_to byte text))
 
-module _ {text : List ℕ} {from byte i : ℕ} (passed : Passed text from byte i) where
-  stops : up_to byte (drop i text) ≡ [] → IsPlace text from byte i
-  stops none = (
-    omega (arith, passed.place, ap length none),
-    (passed.behind, (passed.within, sym (length-take-le i text passed.within))),
-  )
-
-  pub at_end : length text ≤ i → IsPlace text from byte i
-  unfolding up_to
-  at_end end = stops (ap (up_to byte) (drop_of_length-le text end))
-
-  module _ (inside : i < length text) where
-    pub found : get_or text i 0 ≡ byte → IsPlace text from byte i
-    unfolding up_to
-    found e = stops (ap (up_to byte) (drop-cons text i 0 inside) ∙ here)
+pub position_is : (byte : ℕ) (text : List ℕ) {r : Option ℕ} → r ≡ position (λ b. eqb b byte) text
+    → IsPosition byte text r
+position_is byte text e = subst (IsPosition byte text) (sym e) (pick _ (passed_is byte text))
+  where
+    pick : (n : ℕ) → n ≡ length (up_to byte text)
+        → IsPosition byte text (cond (ltb n (length text)) (Some n) None)
+    pick n is = by (ltb n (length text)) refl
       where
-        here : up_to byte (get_or text i 0 ∷ drop (suc i) text) ≡ []
-        here = rw (eq-eqb (get_or text i 0) byte e)
-
-    pub passes : (get_or text i 0 ≡ byte → ⊥) → Passed text from byte (i + 1)
-    unfolding up_to
-    passes other = record {
-      behind = omega (arith, passed.behind);
-      within = omega arith;
-      place = omega (arith, passed.place, ap length one, ap (λ n. length (up_to byte (drop n text))) (add-one i));
-    }
-      where
-        here : up_to byte (get_or text i 0 ∷ drop (suc i) text) ≡ get_or text i 0 ∷ up_to byte (drop (suc i) text)
-        here = rw (ne_eqb (get_or text i 0) byte other)
-
-        one : up_to byte (drop i text) ≡ get_or text i 0 ∷ up_to byte (drop (suc i) text)
-        one = ap (up_to byte) (drop-cons text i 0 inside) ∙ here
+        by : (inside : Bool) → ltb n (length text) ≡ inside → IsPosition byte text (cond inside (Some n) None)
+        by true h = is
+        by false h = omega (arith, is, up_to_short byte text, ltb-false n (length text) h)
 
 up_to_is : (byte : ℕ) (text : List ℕ) → take (length (up_to byte text)) text ≡ up_to byte text
 unfolding up_to
@@ -69,7 +59,7 @@ up_to_is byte (first ∷ text) = pick (eqb first byte) (up_to_is byte text)
     pick true rest = refl
     pick false rest = ap (λ l. first ∷ l) rest
 
-past_is : (byte : ℕ) (text : List ℕ) → drop (min (length (up_to byte text) + 1) (length text)) text ≡ past byte text
+pub past_is : (byte : ℕ) (text : List ℕ) → drop (min (length (up_to byte text) + 1) (length text)) text ≡ past byte text
 unfolding up_to past
 past_is byte [] = refl
 past_is byte (first ∷ text) = pick (eqb first byte) (past_is byte text)
@@ -86,6 +76,10 @@ past_is byte (first ∷ text) = pick (eqb first byte) (past_is byte text)
         ≡ cond same text (past byte text)
     pick true rest = ap (λ n. drop n (first ∷ text)) one
     pick false rest = ap (λ n. drop n (first ∷ text)) more ∙ rest
+
+-- all of a text from a place on
+pub rest_whole : (text : List ℕ) (from : ℕ) → take (length text - from) (drop from text) ≡ drop from text
+rest_whole text from = take_all (length text - from) (drop from text) (omega (arith, length-drop from text))
 
 -- the part of a text from a place on up to the next such byte, and what stands behind that byte
 module _ (byte : ℕ) (text : List ℕ) (from : ℕ) {place : ℕ}

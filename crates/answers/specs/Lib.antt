@@ -1,8 +1,6 @@
 pub mod Counts
-pub mod Digits
 pub mod Numbers
 pub mod Parts
 pub mod Dates
 pub mod Text
 pub mod Listing
-pub mod Room

@@ -1,11 +1,9 @@
 -- A list of judgments in text, one a line: five numbers parted by single spaces.
 use Rattle.std.specs.Prelude.{◌≡◌, cond, List, [], ◌∷◌, ◌++◌, ℕ, ◌*◌, ◌≤◌, ◌<◌, eqb, length, get_or, take, drop}
+use Rattle.std.specs.Prelude.{Option, Some, None, Result, Ok, Err, IfOk}
 use Rattle.sheets.specs.declared.finding.Wanted.{Wanted}
-use Rattle.answers.specs.declared.numbers.Field.{Field}
-use Rattle.answers.specs.declared.numbers.Request.{Request}
-use Rattle.answers.specs.declared.numbers.Request.TheVariants.{Judgment, Unreadable as no_request}
-use Rattle.answers.specs.declared.listing.Listing.{Listing}
-use Rattle.answers.specs.declared.listing.Listing.TheVariants.{Judgments, Unreadable, TooMany}
+use Rattle.answers.specs.declared.listing.ListError.{ListError}
+use Rattle.answers.specs.declared.listing.ListError.TheVariants.{Unreadable, TooMany}
 use Rattle.answers.specs.Numbers.{spelled, read_number, field_of, request_of}
 use Rattle.answers.specs.Parts.{up_to, past}
 use Rattle.answers.specs.Dates.{Numeral}
@@ -21,12 +19,12 @@ lines_of [] = []
 lines_of (byte ∷ text) = cond (eqb byte 10) ([] ∷ lines_of text) (start_with byte (lines_of text))
 
 -- the number below 2^32 that a text spells
-abbrev pub field_in : List ℕ → Field
+abbrev pub field_in : List ℕ → Option ℕ
 field_in text = field_of (read_number text)
 
 -- the judgment with a line's five numbers, parted by single spaces, 32. The fifth is all that is left: with a sixth it
 -- would be none
-unfoldable pub request_in : List ℕ → Request
+unfoldable pub request_in : List ℕ → Option Wanted
 request_in line =
     request_of (field_in (up_to 32 line)) (field_in (up_to 32 context)) (field_in (up_to 32 s1)) (field_in (up_to 32 s2))
     (field_in (past 32 s2))
@@ -41,9 +39,9 @@ request_in line =
     s2 = past 32 s1
 
 -- a line's judgment before others; a line without one ends them
-unfoldable pub before : Request → List Wanted → List Wanted
-before (Judgment wanted) others = wanted ∷ others
-before no_request others = []
+unfoldable pub before : Option Wanted → List Wanted → List Wanted
+before (Some wanted) others = wanted ∷ others
+before None others = []
 
 -- the judgments of lines, up to the first line that is not five numbers
 unfoldable pub judgments_in : List (List ℕ) → List Wanted
@@ -67,18 +65,16 @@ numbers_after text buffer = words ++ drop (length words) buffer
     words = numbers_of (judgments_of text)
 
 -- all lines are read, so many; or reading stopped for want of room, or at a line that is not five numbers
-unfoldable pub listing_of : List ℕ → Listing
+unfoldable pub listing_of : List ℕ → Result ℕ ListError
 listing_of text =
-    cond (eqb read (length (lines_of text))) (Judgments read) (cond (eqb read 1024) TooMany Unreadable)
+    cond (eqb read (length (lines_of text))) (Ok read) (Err (cond (eqb read 1024) TooMany Unreadable))
   where
     read : ℕ
     read = length (judgments_of text)
 
 -- the judgments that are counted are at most 1,024, and their words lie within a buffer of so many
-unfoldable pub InRoom : ℕ → Listing → Type 0
-InRoom room (Judgments count) = (count ≤ 1024) × (5 * count ≤ room)
-InRoom room Unreadable = Unit {0}
-InRoom room TooMany = Unit {0}
+abbrev pub InRoom : ℕ → Result ℕ ListError → Type 0
+InRoom room result = IfOk result (λ count. (count ≤ 1024) × (5 * count ≤ room))
 
 -- digits that spell a number below 2^32
 pub record SpellsWord (text : List ℕ) (n : ℕ) : Type 0 where
@@ -107,9 +103,9 @@ pub data Spell : List (List ℕ) → List Wanted → Type 0 where
       → Spell lines ws → Spell (line ∷ lines) (w ∷ ws)
 
 -- what each answer means, and there is no other: `listing_is` in proofs/ListTextLaws
-pub data ListingMeans (text : List ℕ) : Listing → Type 0 where
-  all : {ws : List Wanted} → Spell (lines_of text) ws → length ws ≤ 1024 → ListingMeans text (Judgments (length ws))
+pub data ListingMeans (text : List ℕ) : Result ℕ ListError → Type 0 where
+  all : {ws : List Wanted} → Spell (lines_of text) ws → length ws ≤ 1024 → ListingMeans text (Ok (length ws))
   full : {ws : List Wanted} → Spell (take 1024 (lines_of text)) ws → 1024 < length (lines_of text)
-      → ListingMeans text TooMany
+      → ListingMeans text (Err TooMany)
   wrong : {ws : List Wanted} (i : ℕ) → i < 1024 → i < length (lines_of text) → Spell (take i (lines_of text)) ws
-      → ((w : Wanted) → SpellsJudgment (get_or (lines_of text) i []) w → ⊥) → ListingMeans text Unreadable
+      → ((w : Wanted) → SpellsJudgment (get_or (lines_of text) i []) w → ⊥) → ListingMeans text (Err Unreadable)

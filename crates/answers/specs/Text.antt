@@ -1,133 +1,99 @@
 -- Answers as lines of text: document 01, "The admitting program reads standard input and prints `ok` with T, C and L,
 -- or `refused` with number and place, fields parted by one space, then a newline."
-use Rattle.std.specs.Prelude.{◌≡◌, cond, List, [], ◌∷◌, ◌++◌, ℕ, zero, suc, ◌+◌, ◌/◌, ◌≤◌, ltb, length, take, drop}
-use Rattle.answers.specs.Digits.{last_digits}
-use Rattle.sheets.specs.declared.admission.Admission.{Admission}
-use Rattle.sheets.specs.declared.admission.Admission.TheVariants.{Accepted, Refused}
-use Rattle.sheets.specs.declared.finding.Found.{Found}
-use Rattle.sheets.specs.declared.finding.Found.TheVariants.{Line, Refused as not_found}
-use Rattle.sheets.specs.declared.withdrawal.Withdrawal.{Withdrawal}
-use Rattle.sheets.specs.declared.withdrawal.Withdrawal.TheVariants.{Written, Refused as not_written}
-use Rattle.sheets.specs.declared.conversion.Conversion.{Conversion}
-use Rattle.sheets.specs.declared.conversion.Conversion.TheVariants.{Written as Converted, Refused as not_converted}
-use Rattle.sheets.specs.declared.batch.Batch.{Batch}
-use Rattle.sheets.specs.declared.batch.Batch.TheVariants.{Answered, Refused as no_batch}
-use Rattle.sheets.specs.declared.normality.Normality.{Normality}
-use Rattle.sheets.specs.declared.normality.Normality.TheVariants.{Yes, No, Refused as no_term}
-use Rattle.windows.specs.declared.dates.DayNumber.{DayNumber}
-use Rattle.windows.specs.declared.dates.DayNumber.TheVariants.{Day, Refused as no_day}
+use Rattle.std.specs.Prelude.{Bool, true, false, List, [], ◌∷◌, ◌++◌, ℕ, codes, decimal, flat_map}
+use Rattle.std.specs.Prelude.{Option, Some, None, Result, Ok, Err}
+use Rattle.sheets.specs.declared.refusals.Counts.{Counts}
+use Rattle.sheets.specs.declared.refusals.Refusal.{Refusal}
+use Rattle.sheets.specs.Refusals.{number_of}
+use Rattle.windows.specs.declared.dates.Date.{Date}
 use Rattle.windows.specs.declared.access.Access.{Access}
-use Rattle.windows.specs.declared.access.Access.TheVariants.{Open, Closed, Refused as no_access}
+use Rattle.windows.specs.declared.access.Access.TheVariants.{Open, Closed}
+use Rattle.windows.specs.declared.errors.WindowError.{WindowError}
 use Rattle.windows.specs.Dates.{day_number_of}
 use Rattle.windows.specs.Access.{window_of, open_on}
-use Rattle.answers.specs.declared.dates.DateReading.{DateReading}
-use Rattle.answers.specs.declared.dates.DateReading.TheVariants.{Spelled, Unreadable}
-
--- how many digits a number has, if that is at most one more than the first argument
-unfoldable pub places : ℕ → ℕ → ℕ
-places zero n = 1
-places (suc more) n = cond (ltb n 10) 1 (suc (places more (n / 10)))
-
--- the digits of a number; twenty hold every number of 64 bits
-unfoldable pub decimal : ℕ → List ℕ
-decimal n = last_digits 10 (places 19 n) n
+use Rattle.windows.specs.Errors.{number_of as window_number}
 
 -- a space and the digits of a number
-unfoldable pub field : ℕ → List ℕ
+abbrev pub field : ℕ → List ℕ
 field n = 32 ∷ decimal n
 
 -- the line end
 abbrev pub end : List ℕ
 end = 10 ∷ []
 
--- "ok"
-abbrev pub ok : List ℕ
-ok = 111 ∷ 107 ∷ []
+-- a word, numbers and the line end
+abbrev pub line_text : List ℕ → List ℕ → List ℕ
+line_text word numbers = word ++ (flat_map field numbers ++ end)
 
--- "refused"
-abbrev pub refused : List ℕ
-refused = 114 ∷ 101 ∷ 102 ∷ 117 ∷ 115 ∷ 101 ∷ 100 ∷ []
-
-unfoldable pub refused_text : ℕ → ℕ → List ℕ
-refused_text number place = refused ++ (field number ++ (field place ++ end))
-
-unfoldable pub admission_text : Admission → List ℕ
-admission_text (Accepted terms contexts lines) = ok ++ (field terms ++ (field contexts ++ (field lines ++ end)))
-admission_text (Refused number place) = refused_text number place
+abbrev pub refused_text : ℕ → ℕ → List ℕ
+refused_text number place = line_text (codes "refused") (number ∷ place ∷ [])
 
 -- one number
-unfoldable pub ok_text : ℕ → List ℕ
-ok_text value = ok ++ (field value ++ end)
+abbrev pub ok_text : ℕ → List ℕ
+ok_text value = line_text (codes "ok") (value ∷ [])
 
-unfoldable pub found_text : Found → List ℕ
-found_text (Line line) = ok_text line
-found_text (not_found number place) = refused_text number place
-
-unfoldable pub withdrawal_text : Withdrawal → List ℕ
-withdrawal_text (Written new) = ok_text new
-withdrawal_text (not_written number place) = refused_text number place
-
--- document 02, A11: "It answers that length"
-unfoldable pub conversion_text : Conversion → List ℕ
-conversion_text (Converted length) = ok_text length
-conversion_text (not_converted number place) = refused_text number place
+abbrev pub counts_text : Counts → List ℕ
+counts_text n = line_text (codes "ok") (n.terms ∷ n.contexts ∷ n.lines ∷ [])
 
 -- document 02, A2: "answers yes for a term exactly if it is normal"
-unfoldable pub normality_text : Normality → List ℕ
-normality_text Yes = 121 ∷ 101 ∷ 115 ∷ end
-normality_text No = 110 ∷ 111 ∷ end
-normality_text (no_term number place) = refused_text number place
+abbrev pub normal_text : Bool → List ℕ
+normal_text true = codes "yes\n"
+normal_text false = codes "no\n"
 
 -- document 02, A1: "answers open or closed"
-unfoldable pub access_text : Access → List ℕ
-access_text Open = 111 ∷ 112 ∷ 101 ∷ 110 ∷ end
-access_text Closed = 99 ∷ 108 ∷ 111 ∷ 115 ∷ 101 ∷ 100 ∷ end
-access_text (no_access number place) = refused_text number place
+abbrev pub open_text : Access → List ℕ
+open_text Open = codes "open\n"
+open_text Closed = codes "closed\n"
+
+abbrev pub refusal_text : Refusal → List ℕ
+refusal_text r = refused_text (number_of r.fault) r.place
+
+-- no place goes with these
+abbrev pub window_error_text : WindowError → List ℕ
+window_error_text e = refused_text (window_number e) 0
+
+-- of what is answered, or of why it is refused
+abbrev pub result_text : {A E : Type 0} → (A → List ℕ) → (E → List ℕ) → Result A E → List ℕ
+result_text value error (Ok a) = value a
+result_text value error (Err e) = error e
+
+abbrev pub admission_text : Result Counts Refusal → List ℕ
+admission_text = result_text counts_text refusal_text
+
+-- the line that a search finds, or the length that a withdrawal or a conversion answers; document 02, A11: "It answers
+-- that length"
+abbrev pub value_text : Result ℕ Refusal → List ℕ
+value_text = result_text ok_text refusal_text
+
+abbrev pub normality_text : Result Bool Refusal → List ℕ
+normality_text = result_text normal_text refusal_text
+
+abbrev pub access_text : Result Access WindowError → List ℕ
+access_text = result_text open_text window_error_text
+
+abbrev pub day_text : Result ℕ WindowError → List ℕ
+day_text = result_text ok_text window_error_text
 
 -- the answer of a window to a date, if all three are dates in text; else nothing
-unfoldable pub window_text : DateReading → DateReading → DateReading → List ℕ
-window_text (Spelled first) (Spelled last) (Spelled day) = access_text (open_on (window_of first last) day)
-window_text (Spelled first) (Spelled last) Unreadable = []
-window_text (Spelled first) Unreadable day = []
-window_text Unreadable last day = []
-
-unfoldable pub day_text : DayNumber → List ℕ
-day_text (Day day) = ok_text day
-day_text (no_day number place) = refused_text number place
+unfoldable pub window_text : Option Date → Option Date → Option Date → Option (List ℕ)
+window_text (Some first) (Some last) (Some day) = Some (access_text (open_on (window_of first last) day))
+window_text (Some first) (Some last) None = None
+window_text (Some first) None day = None
+window_text None last day = None
 
 -- the number of a date's day likewise
-unfoldable pub date_text : DateReading → List ℕ
-date_text (Spelled date) = day_text (day_number_of date)
-date_text Unreadable = []
+unfoldable pub date_text : Option Date → Option (List ℕ)
+date_text (Some date) = Some (day_text (day_number_of date))
+date_text None = None
 
 -- one answer a line
-unfoldable pub answer_line : ℕ → List ℕ
+abbrev pub answer_line : ℕ → List ℕ
 answer_line n = decimal n ++ end
 
-unfoldable pub answer_lines : List ℕ → List ℕ
-answer_lines [] = []
-answer_lines (n ∷ ns) = answer_line n ++ answer_lines ns
+abbrev pub answer_lines : List ℕ → List ℕ
+answer_lines = flat_map answer_line
 
 -- document 02, A7: how many judgments, then the answer for each
-unfoldable pub batch_text : Batch → List ℕ → List ℕ
-batch_text (Answered count) answers = ok_text count ++ answer_lines answers
-batch_text (no_batch number place) answers = refused_text number place
-
--- how many answers there are
-unfoldable pub answer_count : Batch → ℕ
-answer_count (Answered count) = count
-answer_count (no_batch number place) = 0
-
--- bytes stand behind the first at bytes of a buffer, whose length is kept, and end at the given place; the bytes beyond
--- are as they were
-pub record Put (before : List ℕ) (at : ℕ) (bytes after : List ℕ) (stop : ℕ) : Type 0 where
-  pub whole : length after ≡ length before
-  pub place : stop ≡ at + length bytes
-  pub room : stop ≤ length after
-  pub text : take stop after ≡ take at before ++ bytes
-  pub rest : drop stop after ≡ drop stop before
-
--- a text of so many bytes stands at the start of a buffer, and the bytes behind it are as they were
-pub record AtStart (text before after : List ℕ) (count : ℕ) : Type 0 where
-  pub long : count ≡ length text
-  pub whole : after ≡ text ++ drop (length text) before
+unfoldable pub batch_text : Result ℕ Refusal → List ℕ → List ℕ
+batch_text (Ok count) answers = ok_text count ++ answer_lines answers
+batch_text (Err r) answers = refusal_text r

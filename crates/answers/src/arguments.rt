@@ -1,5 +1,5 @@
 // The program's arguments. Its own name is the first of them.
-ghost use Rattle.answers.specs.Counts.{IsPrefixLen};
+ghost use Rattle.std.specs.Prelude.{◌<◌, ◌≤◌, length, IfSome};
 
 use std::env::FillError;
 use std::rt::Env;
@@ -11,18 +11,30 @@ fn is_argument(rt: &impl Env, place: usize) -> bool {
 
 // How many arguments there are.
 pub fn argument_count(rt: &impl Env) -> usize {
-    for place in 0..usize::MAX {
-        if !is_argument(rt, place) {
-            return place;
-        }
-    }
-    usize::MAX
+    (0..usize::MAX)
+        .position(|place| !is_argument(rt, place))
+        .unwrap_or(usize::MAX)
 }
 
-// Puts an argument at the start of `text`, and answers how many bytes it has. One that is missing or too long counts as
-// empty.
-pub fn put_argument(rt: &impl Env, place: usize, text: &mut [u8]) -> usize
-    ensures { IsPrefixLen result text.new }
+// The bytes of an argument, held in `buffer`; none of one that is missing, empty or too long.
+pub fn argument<'a>(rt: &impl Env, place: usize, buffer: &'a mut [u8]) -> Option<&'a [u8]>
+    ensures some { IfSome result (λ text. 0 < length text.now) }
+    ensures held { IfSome result (λ text. length text.now ≤ length buffer.old) }
 {
-    rt.arg(place, text).unwrap_or(0)
+    let length = rt.arg(place, buffer).unwrap_or(0);
+    if length == 0 {
+        return None;
+    }
+    Some(&buffer[..length])
+}
+
+// The same, of the one argument behind the program's name; none if there are more.
+pub fn only_argument<'a>(rt: &impl Env, buffer: &'a mut [u8]) -> Option<&'a [u8]>
+    ensures some { IfSome result (λ text. 0 < length text.now) }
+    ensures held { IfSome result (λ text. length text.now ≤ length buffer.old) }
+{
+    if argument_count(rt) != 2 {
+        return None;
+    }
+    argument(rt, 1, buffer)
 }

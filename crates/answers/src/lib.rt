@@ -4,7 +4,6 @@
 
 pub mod arguments;
 mod dates;
-mod digits;
 pub mod failures;
 pub mod input;
 mod lines;
@@ -13,3 +12,5 @@ pub mod numbers;
 pub mod output;
 pub mod parts;
 pub mod replies;
+
+pub use crate::lines::{BatchText, Line};

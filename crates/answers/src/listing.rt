@@ -1,96 +1,73 @@
 // A list of judgments in text, read into words, five a judgment.
-ghost use Rattle.std.specs.Prelude.{◌≡◌, [], ◌∷◌, ◌+◌, ◌≤◌, length, drop};
-ghost use Rattle.answers.specs.Parts.{up_to, past};
-ghost use Rattle.answers.specs.Text.{Put};
+ghost use Rattle.std.specs.Prelude.{◌≡◌, [], ◌∷◌, ◌++◌, ◌+◌, ◌≤◌, length, take, drop};
 ghost use Rattle.answers.specs.Listing.{field_in, request_in, numbers_of, numbers_after, listing_of, InRoom};
 
-use crate::numbers::{Field, Request, field_of, read_number, request_of};
-use crate::parts::{behind, place_of};
+use crate::numbers::{field_of, read_number, request_of};
+use crate::parts::cut;
 use sheets::finding::Wanted;
 
-// What a list is: so many judgments; or there is a line that is not five numbers, or one more than there is room for,
-// whichever comes first.
-#[derive(Drop)]
-pub enum Listing {
-    Judgments(usize),
+// Why a list is not read: a line of it is not five numbers, or there is one more than there is room for, whichever
+// comes first.
+#[derive(Clone, Copy, Debug, PartialEq, Eq)]
+pub enum ListError {
     Unreadable,
     TooMany,
 }
 
 // The number that a text spells.
-fn field_in(text: &[u8]) -> Field
+fn field_in(text: &[u8]) -> Option<u32>
     ensures { result ≡ field_in text.now }
 {
     field_of(read_number(text))
 }
 
-// The number from a place of a line up to the next space.
-fn field_at(line: &[u8], from: usize) -> Field
-    requires { from ≤ length line.now }
-    ensures { result ≡ field_in (up_to 32 (drop from line.now)) }
-{
-    let end = place_of(line, from, b' ');
-    field_in(&line[from..end])
-}
-
-// Where a line goes on behind the next space.
-fn behind_space(line: &[u8], from: usize) -> usize
-    requires { from ≤ length line.now }
-    ensures rest { drop result line.now ≡ past 32 (drop from line.now) }
-    ensures range { result ≤ length line.now }
-{
-    behind(line, place_of(line, from, b' '))
-}
-
 // The judgment with a line's five numbers.
-fn request_in(line: &[u8]) -> Request
+#[tactic(auto, unfolding(crate::specs::Listing::request_in))]
+fn request_in(line: &[u8]) -> Option<Wanted>
     ensures { result ≡ request_in line.now }
 {
-    let context = behind_space(line, 0);
-    let s1 = behind_space(line, context);
-    let s2 = behind_space(line, s1);
-    let s3 = behind_space(line, s2);
+    let (form, rest) = cut(line, b' ');
+    let (context, rest) = cut(rest, b' ');
+    let (s1, rest) = cut(rest, b' ');
+    let (s2, s3) = cut(rest, b' ');
     request_of(
-        field_at(line, 0),
-        field_at(line, context),
-        field_at(line, s1),
-        field_at(line, s2),
-        field_in(&line[s3..]),
+        field_in(form),
+        field_in(context),
+        field_in(s1),
+        field_in(s2),
+        field_in(s3),
     )
 }
 
 // Puts a judgment's five numbers behind the first `at` words.
+#[tactic(auto, unfolding(crate::specs::Listing::numbers_of))]
 fn put_judgment(wanted: Wanted, numbers: &mut [u32], at: usize)
     requires { at + 5 ≤ length numbers.old }
-    ensures { Put numbers.old at (numbers_of (wanted ∷ [])) numbers.new (at + 5) }
+    ensures { numbers.new ≡ (take at numbers.old ++ numbers_of (wanted ∷ [])) ++ drop (at + 5) numbers.old }
 {
-    numbers[at] = wanted.form;
-    numbers[at + 1] = wanted.context;
-    numbers[at + 2] = wanted.s1;
-    numbers[at + 3] = wanted.s2;
-    numbers[at + 4] = wanted.s3;
+    let words = [wanted.form, wanted.context, wanted.s1, wanted.s2, wanted.s3];
+    numbers[at..at + 5].copy_from_slice(&words);
 }
 
-// Reads a list, a judgment a line, and puts the numbers at the start of `numbers`, those before a fault too.
-pub fn read_list(text: &[u8], numbers: &mut [u32; 5120]) -> Listing
+// Reads a list, a judgment a line, puts the numbers at the start of `numbers`, those before a fault too, and answers
+// how many judgments there are. No heap: the words lie in the caller's array.
+#[tactic(auto, using(crate::proofs::ListingLaws::no_lines))]
+pub fn read_list(text: &[u8], numbers: &mut [u32; 5120]) -> Result<usize, ListError>
     ensures answer { result ≡ listing_of text.now }
     ensures numbers { numbers.new ≡ numbers_after text.now numbers.old }
     ensures room { InRoom (length numbers.new) result }
 {
     let mut count = 0;
-    let mut at = 0;
-    while at < text.len() {
+    // std's `split` would have an empty line behind the last line end
+    for line in text.split_inclusive(|byte| *byte == b'\n') {
         let full = count == 1024;
         if full {
-            return Listing::TooMany;
+            return Err(ListError::TooMany);
         }
-        let end = place_of(text, at, b'\n');
-        let Request::Judgment(wanted) = request_in(&text[at..end]) else {
-            return Listing::Unreadable;
-        };
+        let line = line.strip_suffix(b"\n").unwrap_or(line);
+        let wanted = request_in(line).ok_or(ListError::Unreadable)?;
         put_judgment(wanted, numbers, 5 * count);
         count += 1;
-        at = behind(text, end);
     }
-    Listing::Judgments(count)
+    Ok(count)
 }

@@ -29,7 +29,8 @@ fn make_named<R: Files>(rt: &R, path: &str, bytes: &[u8]) -> io::Result<()> {
     filled
 }
 
-// Makes a file that holds these bytes, and answers whether it could. A file that was cut short is removed.
+// Makes a file that holds these bytes, and answers whether it could: what failed is said here. A file that was cut
+// short is removed.
 pub fn make_file(rt: &(impl Files + Eprint), path: &[u8], bytes: &[u8]) -> bool {
     let made = match str::from_utf8(path) {
         Ok(path) => make_named(rt, path, bytes),

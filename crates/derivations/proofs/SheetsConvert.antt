@@ -7,7 +7,10 @@ use Prim.Native.Nat.{ℕ, ◌≤◌, ◌<◌}
 use native.Mathlib.Omega.{arith}
 use lib.ListN.{length}
 use Rattle.rules.specs.Motives.{GivesMotive}
-use Rattle.sheets.specs.declared.conversion.Conversion.TheVariants.{Written, Refused}
+use Rattle.std.specs.Prelude.{Ok}
+use Rattle.sheets.specs.declared.refusals.Fault.{Fault}
+use Rattle.sheets.specs.declared.refusals.Fault.TheVariants.{NoMotive}
+use Rattle.sheets.specs.Refusals.{number_of, refused}
 use Rattle.sheets.specs.Layout.{edition_of}
 use Rattle.sheets.specs.Lines.{cited_by, line_at}
 use Rattle.sheets.specs.Good.{Good}
@@ -37,23 +40,25 @@ motives_stand {b} {T} {C} {L} g n h wants =
 -- "Old sheets must move": with a work buffer of at least T words and room for its length, every accepted sheet of
 -- edition 1 or 2 is converted
 pub every_sheet_converts : (b : List ℕ) (a : IsAccepted b) (work room : ℕ) → edition_of b < new_edition → a.T ≤ work
-    → length b ≤ room → convert_of b work room ≡ Written (length b)
+    → length b ≤ room → convert_of b work room ≡ Ok (length b)
 every_sheet_converts b a work room old fits enough =
     let g = accepted_good b a in
-    (conversion_is b work room (Written (length b))).1 (admitted g fits (whole old (motives_stand g) enough))
+    (conversion_is b work room (Ok (length b))).1 (admitted g fits (whole old (motives_stand g) enough))
 
 -- "a line without such an earlier line with 21": there is none on an accepted sheet, and admission's own numbers are
 -- lower, so that no input and no buffers have this answer
 module _ (b : List ℕ) (work room : ℕ) where
-  admitted_not_21 : {T C L number place : ℕ} → Good b T C L
-      → AdmittedConversionMeans b T C L room (Refused number place) → number ≡ 21 → ⊥
+  admitted_not_21 : {T C L : ℕ} {fault : Fault} {place : ℕ} → Good b T C L
+      → AdmittedConversionMeans b T C L room (refused fault place) → number_of fault ≡ 21 → ⊥
+  unfolding number_of
   admitted_not_21 g (asks_already h) e = omega (arith, e)
   admitted_not_21 g (no_motive {n} old w) e = w.without (motives_stand g n w.within w.wants)
   admitted_not_21 g (no_room old all short) e = omega (arith, e)
 
-  not_21 : {number place : ℕ} → ConversionMeans b work room (Refused number place) → number ≡ 21 → ⊥
+  not_21 : {fault : Fault} {place : ℕ} → ConversionMeans b work room (refused fault place) → number_of fault ≡ 21 → ⊥
   not_21 (unfit f) e = omega (arith, fault_number f, e)
   not_21 (admitted g fits m) e = admitted_not_21 g m e
 
-  pub never_21 : (place : ℕ) → convert_of b work room ≡ Refused 21 place → ⊥
-  never_21 place e = not_21 ((conversion_is b work room (Refused 21 place)).0 e) refl
+  pub never_21 : (place : ℕ) → convert_of b work room ≡ refused NoMotive place → ⊥
+  unfolding number_of
+  never_21 place e = not_21 ((conversion_is b work room (refused NoMotive place)).0 e) refl

@@ -3,23 +3,22 @@
 // none states the judgment. The list is the file LISTFILE, a judgment a line: the five numbers that `find` takes.
 #![tactic(auto)]
 
-use answers::arguments::{argument_count, put_argument};
+use answers::BatchText;
+use answers::arguments::only_argument;
 use answers::failures::fail;
 use answers::input::{open_input, read_sheet, read_whole};
-use answers::listing::{Listing, read_list};
+use answers::listing::{ListError, read_list};
 use answers::replies::batch_reply;
 use std::io;
-use std::rt::{Env, Files};
+use std::rt::Files;
 
 // Searches the sheet on standard input for judgments, five numbers each.
 fn find_input(rt: &(impl Input + Print + Eprint), numbers: &[u32]) -> io::Result<()> {
     let mut sheet = [0u8; 52241];
-    let input = read_sheet(rt, &mut rt.reader(), &mut sheet);
-    let length = input.length;
-    if input.whole {
-        let mut text = [0u8; 21584];
-        let count = batch_reply(&sheet[..length], numbers, &mut text);
-        rt.write_all(&text[..count])?;
+    if let Ok(length) = read_sheet(rt, &mut rt.reader(), &mut sheet) {
+        let mut text = BatchText::new();
+        batch_reply(&sheet[..length], numbers, &mut text);
+        rt.write_all(text.as_bytes())?;
     }
     Ok(())
 }
@@ -33,14 +32,11 @@ fn refuse_long(rt: &impl Eprint) -> io::Result<()> {
 fn find_listed(rt: &(impl Input + Print + Eprint), list: &[u8]) -> io::Result<()> {
     let mut numbers = [0u32; 5120];
     match read_list(list, &mut numbers) {
-        Listing::Judgments(count) => {
-            let words = 5 * count;
-            find_input(rt, &numbers[..words])
-        }
-        Listing::Unreadable => rt.eprintln(
+        Ok(count) => find_input(rt, &numbers[..5 * count]),
+        Err(ListError::Unreadable) => rt.eprintln(
             "find_all: a line of the list is not five numbers below 4294967296",
         ),
-        Listing::TooMany => refuse_long(rt),
+        Err(ListError::TooMany) => refuse_long(rt),
     }
 }
 
@@ -51,40 +47,31 @@ fn find_from<R: Files + Input + Print + Eprint>(
     path: &[u8],
 ) -> io::Result<()> {
     let mut list = [0u8; 65537];
-    let input = read_whole(rt, &mut file, &mut list, path);
+    let read = read_whole(rt, &mut file, &mut list, path);
     drop(file);
-    let length = input.length;
-    if !input.whole {
-        return Ok(());
+    match read {
+        Ok(65537) => refuse_long(rt),
+        Ok(length) => find_listed(rt, &list[..length]),
+        Err(_) => Ok(()),
     }
-    if length == 65537 {
-        return refuse_long(rt);
-    }
-    find_listed(rt, &list[..length])
 }
 
-// The same for the file that the one argument names. Answers whether there is one.
-fn find_argument(rt: &(impl Files + Input + Env + Print + Eprint)) -> io::Result<bool> {
-    if argument_count(rt) != 2 {
-        return Ok(false);
+// The same for the list in the file of this name.
+fn find_named(rt: &(impl Files + Input + Print + Eprint), path: &[u8]) -> io::Result<()> {
+    match open_input(rt, path) {
+        Ok(file) => find_from(rt, file, path),
+        Err(error) => {
+            fail(rt, path, error);
+            Ok(())
+        }
     }
-    let mut path = [0u8; 4096];
-    let length = put_argument(rt, 1, &mut path);
-    if length == 0 {
-        return Ok(false);
-    }
-    match open_input(rt, &path[..length]) {
-        Ok(file) => find_from(rt, file, &path[..length])?,
-        Err(error) => fail(rt, &path[..length], error),
-    }
-    Ok(true)
 }
 
 fn main(rt: HostRuntime) -> io::Result<()> {
-    if !find_argument(&rt)? {
-        rt.eprintln(
+    match only_argument(&rt, &mut [0; 4096]) {
+        Some(path) => find_named(&rt, path),
+        None => rt.eprintln(
             "usage: find_all LISTFILE < SHEET, a file with five numbers below 4294967296 a line",
-        )?;
+        ),
     }
-    Ok(())
 }

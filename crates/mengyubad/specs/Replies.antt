@@ -1,71 +1,76 @@
 -- Answers as numbers, for programs in other languages: the papers' number and values for each case. Number 0 is
 -- success.
-use Rattle.std.specs.Prelude.{◌≡◌, List, [], ◌∷◌, ℕ, get_or}
-use Rattle.sheets.specs.declared.admission.Admission.{Admission}
-use Rattle.sheets.specs.declared.admission.Admission.TheVariants.{Accepted, Refused}
-use Rattle.sheets.specs.declared.finding.Found.{Found}
-use Rattle.sheets.specs.declared.finding.Found.TheVariants.{Line, Refused as not_found}
-use Rattle.sheets.specs.declared.batch.Batch.{Batch}
-use Rattle.sheets.specs.declared.batch.Batch.TheVariants.{Answered, Refused as not_answered}
-use Rattle.sheets.specs.declared.withdrawal.Withdrawal.{Withdrawal}
-use Rattle.sheets.specs.declared.withdrawal.Withdrawal.TheVariants.{Written, Refused as not_written}
-use Rattle.sheets.specs.declared.conversion.Conversion.{Conversion}
-use Rattle.sheets.specs.declared.conversion.Conversion.TheVariants.{Written as Converted, Refused as not_converted}
-use Rattle.sheets.specs.declared.normality.Normality.{Normality}
-use Rattle.sheets.specs.declared.normality.Normality.TheVariants.{Yes, No, Refused as no_term}
+use Rattle.std.specs.Prelude.{◌≡◌, Bool, true, false, List, [], ◌∷◌, ℕ, get_or, Result, Ok, Err}
+use Rattle.sheets.specs.declared.refusals.Counts.{Counts}
+use Rattle.sheets.specs.declared.refusals.Refusal.{Refusal}
+use Rattle.sheets.specs.Refusals.{number_of as fault_number}
 use Rattle.windows.specs.declared.dates.Date.{Date}
-use Rattle.windows.specs.declared.dates.DayNumber.{DayNumber}
-use Rattle.windows.specs.declared.dates.DayNumber.TheVariants.{Day, Refused as no_day}
 use Rattle.windows.specs.declared.access.Access.{Access}
-use Rattle.windows.specs.declared.access.Access.TheVariants.{Open, Closed, Refused as no_access}
+use Rattle.windows.specs.declared.access.Access.TheVariants.{Open, Closed}
+use Rattle.windows.specs.declared.errors.WindowError.{WindowError}
+use Rattle.windows.specs.Errors.{number_of}
 use Rattle.windows.specs.Dates.{date_of}
 use Rattle.mengyubad.specs.declared.Reply.{Reply}
 
 -- a number with one value; the other two are 0
-unfoldable pub one_value : ℕ → ℕ → Reply
+abbrev pub one_value : ℕ → ℕ → Reply
 one_value number value = record { number = number; first = value; second = 0; third = 0 }
 
--- "T, C, L | admitted"; a refusal has its number and its place
-unfoldable pub admission_reply : Admission → Reply
-admission_reply (Accepted terms contexts lines) = record { number = 0; first = terms; second = contexts; third = lines }
-admission_reply (Refused number place) = one_value number place
+-- an answer by its value, or by its refusal
+abbrev pub reply_of : {T E : Type 0} → (T → Reply) → (E → Reply) → Result T E → Reply
+reply_of value refusal (Ok x) = value x
+reply_of value refusal (Err e) = refusal e
+
+-- a refusal of a sheet has its number and its place
+abbrev pub refused_reply : Refusal → Reply
+refused_reply refusal = one_value (fault_number refusal.fault) refusal.place
+
+-- "T, C, L | admitted"
+abbrev pub counts_value : Counts → Reply
+counts_value counts = record { number = 0; first = counts.terms; second = counts.contexts; third = counts.lines }
+
+abbrev pub admission_reply : Result Counts Refusal → Reply
+admission_reply = reply_of counts_value refused_reply
 
 -- "line number | judgment found"
-unfoldable pub found_reply : Found → Reply
-found_reply (Line line) = one_value 0 line
-found_reply (not_found number place) = one_value number place
+abbrev pub found_reply : Result ℕ Refusal → Reply
+found_reply = reply_of (one_value 0) refused_reply
 
 -- "The batch returns the list's length" (document 02, A7)
-unfoldable pub batch_reply : Batch → Reply
-batch_reply (Answered count) = one_value 0 count
-batch_reply (not_answered number place) = one_value number place
+abbrev pub batch_reply : Result ℕ Refusal → Reply
+batch_reply = reply_of (one_value 0) refused_reply
 
 -- "new length | line withdrawn"
-unfoldable pub withdrawal_reply : Withdrawal → Reply
-withdrawal_reply (Written length) = one_value 0 length
-withdrawal_reply (not_written number place) = one_value number place
+abbrev pub withdrawal_reply : Result ℕ Refusal → Reply
+withdrawal_reply = reply_of (one_value 0) refused_reply
 
 -- "It answers that length" (document 02, A11)
-unfoldable pub conversion_reply : Conversion → Reply
-conversion_reply (Converted length) = one_value 0 length
-conversion_reply (not_converted number place) = one_value number place
+abbrev pub conversion_reply : Result ℕ Refusal → Reply
+conversion_reply = reply_of (one_value 0) refused_reply
 
 -- 1 for yes, 0 for no
-unfoldable pub normality_reply : Normality → Reply
-normality_reply Yes = one_value 0 1
-normality_reply No = one_value 0 0
-normality_reply (no_term number place) = one_value number place
+abbrev pub yes_or_no : Bool → Reply
+yes_or_no true = one_value 0 1
+yes_or_no false = one_value 0 0
+
+abbrev pub normality_reply : Result Bool Refusal → Reply
+normality_reply = reply_of yes_or_no refused_reply
+
+-- a refusal of dates has its number, and no place
+abbrev pub window_refusal : WindowError → Reply
+window_refusal refusal = one_value (number_of refusal) 0
 
 -- the number of a day
-unfoldable pub day_reply : DayNumber → Reply
-day_reply (Day day) = one_value 0 day
-day_reply (no_day number place) = one_value number place
+abbrev pub day_reply : Result ℕ WindowError → Reply
+day_reply = reply_of (one_value 0) window_refusal
 
 -- 1 for open, 0 for closed
-unfoldable pub access_reply : Access → Reply
-access_reply Open = one_value 0 1
-access_reply Closed = one_value 0 0
-access_reply (no_access number place) = one_value number place
+abbrev pub access_value : Access → Reply
+access_value Open = one_value 0 1
+access_value Closed = one_value 0 0
+
+abbrev pub access_reply : Result Access WindowError → Reply
+access_reply = reply_of access_value window_refusal
 
 -- three numbers: year, month, day
 unfoldable pub date_from : List ℕ → Date

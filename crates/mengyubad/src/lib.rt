@@ -3,7 +3,7 @@
 // normal or open and 0 for not; else the place. What is left over is 0.
 #![tactic(auto)]
 
-ghost use Rattle.std.specs.Prelude.{◌≡◌, length};
+ghost use Rattle.std.specs.Prelude.{◌≡◌, length, MatchResult};
 ghost use Rattle.sheets.specs.Admission.{admit_of, work_after};
 ghost use Rattle.sheets.specs.Finding.{find_of};
 ghost use Rattle.sheets.specs.Batch.{wanted_of, wanted_in, batch_of, answers_after};
@@ -15,18 +15,21 @@ ghost use Rattle.windows.specs.Dates.{day_number_of};
 ghost use Rattle.windows.specs.Access.{window_of, open_on};
 ghost use Rattle.mengyubad.specs.Replies.{one_value, admission_reply, found_reply, batch_reply, withdrawal_reply};
 ghost use Rattle.mengyubad.specs.Replies.{conversion_reply, normality_reply, day_reply, access_reply};
+ghost use Rattle.mengyubad.specs.Replies.{counts_value, yes_or_no, refused_reply, access_value, window_refusal};
 ghost use Rattle.mengyubad.specs.Replies.{date_from, Given};
 
-use sheets::admission::{Admission, admit};
-use sheets::batch::{Batch, find_all_flat};
-use sheets::conversion::{Conversion, convert};
-use sheets::finding::{Found, Wanted, find};
-use sheets::normality::{Normality, mark_normal};
-use sheets::withdrawal::{Withdrawal, withdraw, withdraw_set};
+use sheets::admission::admit;
+use sheets::batch::find_all_flat;
+use sheets::conversion::convert;
+use sheets::finding::find;
+use sheets::normality::mark_normal;
+use sheets::refusals::{Counts, Refusal};
+use sheets::withdrawal::{withdraw, withdraw_set};
 use windows::access::{Access, Window};
-use windows::dates::{Date, DayNumber};
+use windows::dates::Date;
+use windows::errors::WindowError;
 
-// A number and three values.
+// What C is given: a number, 0 or that of a refusal, and three values.
 #[derive(Clone, Copy)]
 struct Reply {
     number: usize,
@@ -47,115 +50,98 @@ fn single(number: usize, value: usize) -> Reply
     }
 }
 
-fn admission_reply(answer: Admission) -> Reply
-    ensures { result ≡ admission_reply answer }
-{
-    match answer {
-        Admission::Refused { number, place } => single(number, place),
-        Admission::Accepted {
-            terms,
-            contexts,
-            lines,
-        } => Reply {
+// A number alone.
+impl From<usize> for Reply {
+    ghost from_gives = { λ value reply. reply ≡ one_value 0 value };
+
+    fn from(value: usize) -> Reply {
+        single(0, value)
+    }
+}
+
+// The counts T, C and L.
+impl From<Counts> for Reply {
+    ghost from_gives = { λ counts reply. reply ≡ counts_value counts };
+
+    fn from(counts: Counts) -> Reply {
+        Reply {
             number: 0,
-            first: terms,
-            second: contexts,
-            third: lines,
-        },
+            first: counts.terms,
+            second: counts.contexts,
+            third: counts.lines,
+        }
     }
 }
 
-fn found_reply(answer: Found) -> Reply
-    ensures { result ≡ found_reply answer }
-{
-    match answer {
-        Found::Refused { number, place } => single(number, place),
-        Found::Line(line) => single(0, line),
+// 1 for yes, 0 for no.
+impl From<bool> for Reply {
+    ghost from_gives = { λ yes reply. reply ≡ yes_or_no yes };
+
+    fn from(yes: bool) -> Reply {
+        single(0, usize::from(yes))
     }
 }
 
-fn batch_reply(answer: Batch) -> Reply
-    ensures { result ≡ batch_reply answer }
-{
-    match answer {
-        Batch::Refused { number, place } => single(number, place),
-        Batch::Answered(count) => single(0, count),
+// Its number and its place.
+impl From<Refusal> for Reply {
+    ghost from_gives = { λ refusal reply. reply ≡ refused_reply refusal };
+
+    fn from(refusal: Refusal) -> Reply {
+        single(refusal.fault.number(), refusal.place)
     }
 }
 
-fn withdrawal_reply(answer: Withdrawal) -> Reply
-    ensures { result ≡ withdrawal_reply answer }
-{
-    match answer {
-        Withdrawal::Refused { number, place } => single(number, place),
-        Withdrawal::Written { length } => single(0, length),
+// 1 for open, 0 for closed.
+impl From<Access> for Reply {
+    ghost from_gives = { λ access reply. reply ≡ access_value access };
+
+    fn from(access: Access) -> Reply {
+        match access {
+            Access::Open => single(0, 1),
+            Access::Closed => single(0, 0),
+        }
     }
 }
 
-fn conversion_reply(answer: Conversion) -> Reply
-    ensures { result ≡ conversion_reply answer }
-{
-    match answer {
-        Conversion::Refused { number, place } => single(number, place),
-        Conversion::Written { length } => single(0, length),
+// Its number; no place goes with it.
+impl From<WindowError> for Reply {
+    ghost from_gives = { λ refusal reply. reply ≡ window_refusal refusal };
+
+    fn from(refusal: WindowError) -> Reply {
+        single(refusal.number(), 0)
     }
 }
 
-fn normality_reply(answer: Normality) -> Reply
-    ensures { result ≡ normality_reply answer }
-{
-    match answer {
-        Normality::Refused { number, place } => single(number, place),
-        Normality::Yes => single(0, 1),
-        Normality::No => single(0, 0),
-    }
-}
+// What is answered, or why not.
+impl<T: Into<Reply>, E: Into<Reply>> From<Result<T, E>> for Reply {
+    ghost from_gives = { λ answer reply. MatchResult answer (λ value. T.Into.converts value reply) (λ refusal. E.Into.converts refusal reply) };
 
-fn day_reply(answer: DayNumber) -> Reply
-    ensures { result ≡ day_reply answer }
-{
-    match answer {
-        DayNumber::Refused { number, place } => single(number, place),
-        DayNumber::Day(day) => single(0, day),
+    fn from(answer: Result<T, E>) -> Reply {
+        match answer {
+            Ok(value) => value.into(),
+            Err(refusal) => refusal.into(),
+        }
     }
-}
-
-fn access_reply(answer: Access) -> Reply
-    ensures { result ≡ access_reply answer }
-{
-    match answer {
-        Access::Refused { number, place } => single(number, place),
-        Access::Open => single(0, 1),
-        Access::Closed => single(0, 0),
-    }
-}
-
-// A function, since the range of a parameter is known, and that of an element read through a reference is not.
-fn wide(number: u32) -> usize
-    ensures { result ≡ number }
-{
-    number as usize
 }
 
 // The date of three numbers.
+#[tactic(auto, unfolding(crate::specs::Replies::date_from, windows::specs::Dates::date_of))]
 fn date_from(numbers: &[u32; 3]) -> Date
     ensures { result ≡ date_from numbers.now }
 {
+    let [year, month, day] = *numbers;
     Date {
-        year: wide(numbers[0]),
-        month: wide(numbers[1]),
-        day: wide(numbers[2]),
+        year: year as usize,
+        month: month as usize,
+        day: day as usize,
     }
 }
 
 // Puts a reply's values, and answers its number.
-fn give(reply: Reply, values: &mut [usize]) -> usize
-    requires { length values.old ≡ 3 }
+fn give(reply: Reply, values: &mut [usize; 3]) -> usize
     ensures { Given reply result values.new }
 {
-    values[0] = reply.first;
-    values[1] = reply.second;
-    values[2] = reply.third;
+    *values = [reply.first, reply.second, reply.third];
     reply.number
 }
 
@@ -165,7 +151,7 @@ pub extern "C" fn mengyubad_admit(sheet: &[u8], work: &mut [u32], values: &mut [
     ensures answer { Given (admission_reply (admit_of sheet.now (length work.old))) result values.new }
     ensures left { work.new ≡ work_after sheet.now work.old }
 {
-    give(admission_reply(admit(sheet, work)), values)
+    give(admit(sheet, work).into(), values)
 }
 
 // The line of a sheet with this form, context and three subjects: of several the one of least height, and of those the
@@ -180,14 +166,7 @@ pub extern "C" fn mengyubad_find(
     ensures answer { Given (found_reply (find_of sheet.now (length work.old) (wanted_of wanted.now))) result values.new }
     ensures left { work.new ≡ work_after sheet.now work.old }
 {
-    let judgment = Wanted {
-        form: wanted[0],
-        context: wanted[1],
-        s1: wanted[2],
-        s2: wanted[3],
-        s3: wanted[4],
-    };
-    give(found_reply(find(sheet, work, judgment)), values)
+    give(find(sheet, work, (*wanted).into()).into(), values)
 }
 
 // The lines of many judgments, five numbers a judgment, in a buffer of answers, 65,535 for a judgment that no line has:
@@ -204,10 +183,7 @@ pub extern "C" fn mengyubad_find_all(
     ensures left { work.new ≡ work_after sheet.now work.old }
     ensures put { answers.new ≡ answers_after sheet.now (length work.old) (wanted_in wanted.now) answers.old }
 {
-    give(
-        batch_reply(find_all_flat(sheet, work, wanted, answers)),
-        values,
-    )
+    give(find_all_flat(sheet, work, wanted, answers).into(), values)
 }
 
 // Writes a sheet without one of its lines: the new length.
@@ -224,7 +200,7 @@ pub extern "C" fn mengyubad_withdraw(
     ensures written { out.new ≡ out_after sheet.now line (length work.old) out.old }
     ensures kept { KeepsTheOthers sheet.now line out.new (withdraw_of sheet.now line (length work.old) (length out.old)) }
 {
-    give(withdrawal_reply(withdraw(sheet, line, work, out)), values)
+    give(withdraw(sheet, line, work, out).into(), values)
 }
 
 // Writes a sheet without the lines of a set, whose numbers rise: the new length.
@@ -241,10 +217,7 @@ pub extern "C" fn mengyubad_withdraw_set(
     ensures written { out.new ≡ set_out_after sheet.now lines.now (length work.old) out.old }
     ensures kept { KeepsTheUnlisted sheet.now lines.now out.new (withdraw_set_of sheet.now lines.now (length work.old) (length out.old)) }
 {
-    give(
-        withdrawal_reply(withdraw_set(sheet, lines, work, out)),
-        values,
-    )
+    give(withdraw_set(sheet, lines, work, out).into(), values)
 }
 
 // Writes a sheet in edition 3, where the lines of rules 33 and 34 cite their motives: the length, which stays.
@@ -260,7 +233,7 @@ pub extern "C" fn mengyubad_convert(
     ensures written { out.new ≡ converted_after sheet.now (length work.old) out.old }
     ensures kept { KeepsEveryLine sheet.now out.new (convert_of sheet.now (length work.old) (length out.old)) }
 {
-    give(conversion_reply(convert(sheet, work, out)), values)
+    give(convert(sheet, work, out).into(), values)
 }
 
 // Whether a term of a sheet is normal: 1 or 0.
@@ -274,7 +247,7 @@ pub extern "C" fn mengyubad_normal(
     ensures answer { Given (normality_reply (normality_of sheet.now term (length work.old))) result values.new }
     ensures left { work.new ≡ work_after sheet.now work.old }
 {
-    give(normality_reply(mark_normal(sheet, term, work)), values)
+    give(mark_normal(sheet, term, work).into(), values)
 }
 
 // How many days after 1 January 1970 a date is.
@@ -282,7 +255,7 @@ pub extern "C" fn mengyubad_normal(
 pub extern "C" fn mengyubad_day_number(date: &[u32; 3], values: &mut [usize; 3]) -> usize
     ensures { Given (day_reply (day_number_of (date_from date.now))) result values.new }
 {
-    give(day_reply(date_from(date).day_number()), values)
+    give(date_from(date).day_number().into(), values)
 }
 
 // Whether a window is open on a day: 1 or 0.
@@ -296,5 +269,5 @@ pub extern "C" fn mengyubad_window(
     ensures { Given (access_reply (open_on (window_of (date_from first.now) (date_from last.now)) (date_from day.now))) result values.new }
 {
     let window = Window::new(date_from(first), date_from(last));
-    give(access_reply(window.open_on(date_from(day))), values)
+    give(window.open_on(date_from(day)).into(), values)
 }

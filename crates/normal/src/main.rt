@@ -2,38 +2,30 @@
 // place.
 #![tactic(auto)]
 
-use answers::arguments::{argument_count, put_argument};
+use answers::arguments::only_argument;
 use answers::input::read_sheet;
-use answers::numbers::{Reading, read_number};
+use answers::numbers::read_number;
 use answers::replies::normality_reply;
 use std::io;
 use std::rt::Env;
 
-// The number that the argument spells. One that is missing or too long counts as empty.
-fn term_argument(rt: &impl Env) -> Reading {
-    let mut text = [0u8; 32];
-    let length = put_argument(rt, 1, &mut text);
-    read_number(&text[..length])
+// The number that the argument spells.
+fn term_argument(rt: &impl Env) -> Option<usize> {
+    read_number(only_argument(rt, &mut [0; 32])?)
 }
 
 // Asks about a term of the sheet on standard input.
 fn mark_input(rt: &(impl Input + Print + Eprint), term: usize) -> io::Result<()> {
     let mut sheet = [0u8; 52241];
-    let input = read_sheet(rt, &mut rt.reader(), &mut sheet);
-    let length = input.length;
-    if input.whole {
-        let mut text = [0u8; 80];
-        let count = normality_reply(&sheet[..length], term, &mut text);
-        rt.write_all(&text[..count])?;
+    if let Ok(length) = read_sheet(rt, &mut rt.reader(), &mut sheet) {
+        rt.write_all(normality_reply(&sheet[..length], term).as_bytes())?;
     }
     Ok(())
 }
 
 fn main(rt: HostRuntime) -> io::Result<()> {
-    if argument_count(&rt) == 2 {
-        if let Reading::Number(term) = term_argument(&rt) {
-            return mark_input(&rt, term);
-        }
+    match term_argument(&rt) {
+        Some(term) => mark_input(&rt, term),
+        None => rt.eprintln("usage: normal TERM < SHEET, a number below 18446744073709551616"),
     }
-    rt.eprintln("usage: normal TERM < SHEET, a number below 18446744073709551616")
 }

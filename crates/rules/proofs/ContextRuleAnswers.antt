@@ -18,8 +18,7 @@ use Rattle.rules.specs.Judgment.{Context, wf, typed}
 use Rattle.rules.specs.Instance.{Entry, Instance}
 use Rattle.rules.specs.Conditions.{IsUniverse, Declares}
 use Rattle.rules.specs.Contexts.{type_of, context, InTables, entry_of}
-use Rattle.rules.specs.declared.contexts.FoundEntry.{FoundEntry}
-use Rattle.rules.specs.declared.contexts.FoundEntry.TheVariants.{At, Missing}
+use Rattle.std.specs.Prelude.{Option, Some, None}
 use Rattle.rules.proofs.ContextLaws.{rule_1, rule_2}
 use Rattle.rules.proofs.TypingLaws.{rule_3}
 use Rattle.rules.proofs.ContextTableLaws.{context_empty, context_step}
@@ -61,17 +60,17 @@ module _ (terms contexts : List ℕ) where
     pub entry_row : (t : ℕ) → (n ≡ 0 → ⊥) → t ≡ type_of contexts n → t < g.given.term_count
     entry_row t some e = omega (arith, (g.given.table.rows n (omega arith) within).known)
 
-    pub found_row : (x row : ℕ) (o : FoundEntry) → o ≡ entry_of contexts n x → o ≡ At row → row < g.given.term_count
+    pub found_row : (x row : ℕ) (o : Option ℕ) → o ≡ entry_of contexts n x → o ≡ Some row → row < g.given.term_count
     found_row x row o f h = (entry_at terms contexts g.given.term_count g.given.count g.given.table x n row within (sym f ∙ h)).0
 
     module _ {c₁ c₃ : Term} (x : ℕ) (e : x ≡ number_in c₁) where
       pub var_no : (r : Bool) → Decides r (c₁ ≡ var x) → r ≡ false → Decides false (Instance 3 (wf (context terms contexts n) ∷ []) (typed (context terms contexts n) c₁ c₃))
       var_no r d f = says_no (λ i. refuted d f (declares_variable x e (rule_3.0 i).1))
 
-      pub var_missing : (o : FoundEntry) → o ≡ entry_of contexts n x → o ≡ Missing → Decides false (Instance 3 (wf (context terms contexts n) ∷ []) (typed (context terms contexts n) c₁ c₃))
+      pub var_missing : (o : Option ℕ) → o ≡ entry_of contexts n x → o ≡ None → Decides false (Instance 3 (wf (context terms contexts n) ∷ []) (typed (context terms contexts n) c₁ c₃))
       var_missing o f h = says_no (λ i. let d = (rule_3.0 i).1 in entry_missing terms contexts g.given.term_count g.given.count g.given.table x n within (sym f ∙ h) d.1 (declares_entry x e d).0)
 
-      module _ (o : FoundEntry) (row : ℕ) (f : o ≡ entry_of contexts n x) (h : o ≡ At row) where
+      module _ (o : Option ℕ) (row : ℕ) (f : o ≡ entry_of contexts n x) (h : o ≡ Some row) where
         pub var_found : (r : Bool) → Decides r (c₁ ≡ var x) → r ≡ true → (s : Bool) → Decides s (c₃ ≡ shift 0 (x + 1) (term terms row)) → Decides s (Instance 3 (wf (context terms contexts n) ∷ []) (typed (context terms contexts n) c₁ c₃))
         var_found r d k s m = decides_via (there, back) m
           where

@@ -1,6 +1,6 @@
 -- The check of a context table answers for its declarative reading, number 8.
 -- Assumes nothing.
-use mathlib.Core.Path.{◌≡◌, refl, sym, ◌∙◌, subst}
+use mathlib.Core.Path.{◌≡◌, refl, sym, ◌∙◌, ap, subst}
 use mathlib.Core.Logic.{◌↔◌, ◌⊎◌, inl, inr, ⊎_elim}
 use mathlib.Core.Bool.{Bool, true, false, ◌&&◌, not}
 use mathlib.Core.List.{List}
@@ -12,9 +12,14 @@ use Rattle.terms.specs.Search.{ends_if}
 use Rattle.terms.proofs.Tests.{says_no, says_lt, says_eq, refuted, decides_via, ◌&◌, decides_either, clash}
 use Rattle.terms.proofs.Shape.{below_or_last}
 use Rattle.terms.proofs.SearchLaws.{Between, After, Answers, stops, passes, Tells, search_means}
-use Rattle.rules.specs.Contexts.{parent_of, type_of, GoodContext, RepeatsContext, ContextTable, FirstFaultyContext, context_fits, holds_context, repeated_within, repeated_context, right_context, check_contexts}
-use Rattle.rules.specs.declared.contexts.ContextsAnswer.{ContextsAnswer}
-use Rattle.rules.specs.declared.contexts.ContextsAnswer.TheVariants.{NoFault, Faulty}
+use Rattle.rules.specs.Contexts.{parent_of, type_of, GoodContext, RepeatsContext, ContextTable, FirstFaultyContext, context_fits, holds_context, repeated_within, repeated_context, right_context, faulty_context, check_contexts}
+use Rattle.rules.specs.declared.contexts.ContextsError.{ContextsError}
+use Rattle.std.specs.Prelude.{Result, Ok, Err}
+
+-- the row that a refusal names
+abbrev refused_place : Result (Unit {0}) ContextsError → ℕ
+refused_place (Ok _) = 0
+refused_place (Err e) = e.place
 
 module _ (contexts : List ℕ) where
   module _ (parent entry : ℕ) where
@@ -63,10 +68,10 @@ module _ (contexts : List ℕ) (term_count : ℕ) where
   abbrev Right : ℕ → Type 0
   Right n = GoodContext contexts term_count n × (RepeatsContext contexts n → ⊥)
 
-  abbrev Wrong : ℕ → ContextsAnswer → Type 0
-  Wrong n a = ((GoodContext contexts term_count n → ⊥) ⊎ RepeatsContext contexts n) × (a ≡ Faulty n)
+  abbrev Wrong : ℕ → Result (Unit {0}) ContextsError → Type 0
+  Wrong n a = ((GoodContext contexts term_count n → ⊥) ⊎ RepeatsContext contexts n) × (a ≡ faulty_context n)
 
-  rows_tell : Tells Right Wrong (λ n. ends_if (not (right_context contexts term_count n)) (Faulty n))
+  rows_tell : Tells Right Wrong (λ n. ends_if (not (right_context contexts term_count n)) (faulty_context n))
   unfolding right_context ends_if
   rows_tell =
       record {
@@ -76,15 +81,15 @@ module _ (contexts : List ℕ) (term_count : ℕ) where
       }
     where
       on : (n : ℕ) (f r : Bool) → Decides f (GoodContext contexts term_count n) → Decides r (RepeatsContext contexts n)
-          → After (Wrong n) (λ _. Right n) (ends_if (not (f && not r)) (Faulty n))
+          → After (Wrong n) (λ _. Right n) (ends_if (not (f && not r)) (faulty_context n))
       on n false r d e = (inl (refuted d refl), refl)
       on n true true d e = (inr (e.0 refl), refl)
       on n true false d e = (d.0 refl, refuted e refl)
 
-  means : (count : ℕ) (a : ContextsAnswer)
-      → (check_contexts contexts term_count count ≡ a) ↔ Answers Right Wrong NoFault 1 (suc count) a
+  means : (count : ℕ) (a : Result (Unit {0}) ContextsError)
+      → (check_contexts contexts term_count count ≡ a) ↔ Answers Right Wrong (Ok tt) 1 (suc count) a
   unfolding check_contexts
-  means count = search_means rows_tell NoFault count 1 (suc count) (omega arith)
+  means count = search_means rows_tell (Ok tt) count 1 (suc count) (omega arith)
 
   right_table : (count : ℕ) → 4 * count ≤ length contexts → Between Right 1 (suc count)
       → ContextTable contexts term_count count
@@ -105,27 +110,27 @@ module _ (contexts : List ℕ) (term_count : ℕ) where
   )
 
   -- number 8 finds no fault exactly if the table is well formed
-  pub check_faultless : (count : ℕ) → 4 * count ≤ length contexts → (check_contexts contexts term_count count ≡ NoFault) ↔ ContextTable contexts term_count count
+  pub check_faultless : (count : ℕ) → 4 * count ≤ length contexts → (check_contexts contexts term_count count ≡ (Ok tt)) ↔ ContextTable contexts term_count count
   check_faultless count whole =
-      (λ e. from ((means count NoFault).0 e), λ table. (means count NoFault).1 (passes (table_right count table) refl))
+      (λ e. from ((means count (Ok tt)).0 e), λ table. (means count (Ok tt)).1 (passes (table_right count table) refl))
     where
-      from : Answers Right Wrong NoFault 1 (suc count) NoFault → ContextTable contexts term_count count
+      from : Answers Right Wrong (Ok tt) 1 (suc count) (Ok tt) → ContextTable contexts term_count count
       from (stops p low high before wrong) = clash (cc wrong.1)
       from (passes all e) = right_table count whole all
 
   -- and otherwise the first faulty row
-  pub check_faulty : (count place : ℕ) → 4 * count ≤ length contexts → (check_contexts contexts term_count count ≡ Faulty place) ↔ FirstFaultyContext contexts term_count count place
+  pub check_faulty : (count place : ℕ) → 4 * count ≤ length contexts → (check_contexts contexts term_count count ≡ faulty_context place) ↔ FirstFaultyContext contexts term_count count place
   check_faulty count place whole = (
-    λ e. from ((means count (Faulty place)).0 e),
-    λ f. (means count (Faulty place)).1 (stops place f.low (omega (arith, f.high)) (before f) (f.wrong, refl)),
+    λ e. from ((means count (faulty_context place)).0 e),
+    λ f. (means count (faulty_context place)).1 (stops place f.low (omega (arith, f.high)) (before f) (f.wrong, refl)),
   )
     where
       before : FirstFaultyContext contexts term_count count place → Between Right 1 place
       before f n low high = table_right (place - 1) f.before n low (omega arith)
 
-      from : Answers Right Wrong NoFault 1 (suc count) (Faulty place) → FirstFaultyContext contexts term_count count place
+      from : Answers Right Wrong (Ok tt) 1 (suc count) (faulty_context place) → FirstFaultyContext contexts term_count count place
       from (stops p low high all wrong) =
-          let same : p ≡ place = cc wrong.1 in
+          let same : p ≡ place = ap refused_place (sym wrong.1) in
           record {
             low = omega arith;
             high = omega arith;

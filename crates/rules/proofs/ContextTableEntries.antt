@@ -1,20 +1,18 @@
 -- The entry that a look-up finds, or does not find, is the one that rule 3 speaks of.
 -- Assumes nothing.
-use mathlib.Core.Path.{◌≡◌, refl, sym, ◌∙◌, ap, subst}
-use mathlib.Core.Logic.{◌↔◌, ◌⊎◌, inl, inr, ⊎_elim}
-use mathlib.Core.Bool.{Bool, true, false, ◌&&◌, not}
-use mathlib.Core.List.{List, [], ◌∷◌}
-use Prim.Native.Nat.{ℕ, zero, suc, ◌-◌, ◌≤◌, ◌<◌}
+use mathlib.Core.Path.{◌≡◌, refl, sym, ap, subst}
+use mathlib.Core.Logic.{◌↔◌}
+use mathlib.Core.List.{List, ◌∷◌}
+use Prim.Native.Nat.{ℕ, zero, suc, ◌≤◌, ◌<◌}
 use native.Mathlib.Omega.{arith}
-use lib.Dec.{eqb}
 use lib.ListN.{length}
 use Rattle.terms.specs.Term.{Term}
 use Rattle.terms.specs.Rows.{term}
-use Rattle.terms.proofs.Tests.{never, clash, says_eq, refuted}
+use Rattle.terms.proofs.Tests.{clash}
 use Rattle.rules.specs.Judgment.{Context}
 use Rattle.rules.specs.Instance.{Entry, here, there}
-use Rattle.rules.specs.Contexts.{parent_of, type_of, context, ContextTable, NumberedContexts, entry_of}
-use Rattle.rules.specs.declared.contexts.FoundEntry.TheVariants.{At, Missing}
+use Rattle.rules.specs.Contexts.{parent_of, type_of, context, ContextTable, entry_of}
+use Rattle.std.specs.Prelude.{Some, None}
 use Rattle.rules.proofs.ContextTableLaws.{context_empty, context_step}
 
 pub entry_long : {G : Context} {x : ℕ} {A : Term} → Entry G x A → x < length G
@@ -25,7 +23,7 @@ entry_once : {G : Context} {x : ℕ} {A B : Term} → Entry G x A → Entry G x 
 entry_once here here = refl
 entry_once (there e) (there f) = entry_once e f
 
-differ : {A : Type 0} {row : ℕ} → At row ≡ Missing → A
+differ : {A : Type 0} {row : ℕ} → Some row ≡ None → A
 differ e = clash cc
 
 module _ (terms contexts : List ℕ) (term_count count : ℕ) (table : ContextTable contexts term_count count) where
@@ -33,7 +31,7 @@ module _ (terms contexts : List ℕ) (term_count count : ℕ) (table : ContextTa
   step = context_step terms contexts count (λ n low high. (table.rows n low high).earlier)
 
   -- the row found is one of the terms, and its term is the entry
-  pub entry_at : (x n row : ℕ) → n ≤ count → entry_of contexts n x ≡ At row → (row < term_count) × Entry (context terms contexts n) x (term terms row)
+  pub entry_at : (x n row : ℕ) → n ≤ count → entry_of contexts n x ≡ Some row → (row < term_count) × Entry (context terms contexts n) x (term terms row)
   unfolding entry_of
   entry_at zero zero row h e = differ (sym e)
   entry_at zero (suc n) row h e =
@@ -46,7 +44,7 @@ module _ (terms contexts : List ℕ) (term_count count : ℕ) (table : ContextTa
       let r = entry_at x (parent_of contexts (suc n)) row (omega (arith, g.earlier)) e in
       (r.0, subst (λ G. Entry G (suc x) (term terms row)) (sym (step (suc n) (omega arith) h)) (there r.1))
 
-  shorter : (x n : ℕ) → n ≤ count → entry_of contexts n x ≡ Missing → length (context terms contexts n) ≤ x
+  shorter : (x n : ℕ) → n ≤ count → entry_of contexts n x ≡ None → length (context terms contexts n) ≤ x
   unfolding entry_of
   shorter zero zero h e = omega (arith, ap length (context_empty terms contexts))
   shorter zero (suc n) h e = differ e
@@ -55,58 +53,25 @@ module _ (terms contexts : List ℕ) (term_count count : ℕ) (table : ContextTa
       let g = table.rows (suc n) (omega arith) h in
       omega (arith, shorter x (parent_of contexts (suc n)) (omega (arith, g.earlier)) e, ap length (step (suc n) (omega arith) h))
 
-  pub entry_found : (x n row : ℕ) → n ≤ count → entry_of contexts n x ≡ At row → (A : Term) → Entry (context terms contexts n) x A ↔ (A ≡ term terms row)
+  pub entry_found : (x n row : ℕ) → n ≤ count → entry_of contexts n x ≡ Some row → (A : Term) → Entry (context terms contexts n) x A ↔ (A ≡ term terms row)
   entry_found x n row h e A =
       let r = (entry_at x n row h e).1 in
       (λ s. entry_once s r, λ f. subst (Entry (context terms contexts n) x) (sym f) r)
 
-  pub entry_missing : (x n : ℕ) → n ≤ count → entry_of contexts n x ≡ Missing → (A : Term) → Entry (context terms contexts n) x A → ⊥
+  pub entry_missing : (x n : ℕ) → n ≤ count → entry_of contexts n x ≡ None → (A : Term) → Entry (context terms contexts n) x A → ⊥
   entry_missing x n h e A s = omega (arith, shorter x n h e, entry_long s)
 
--- two tests that fail, and one that holds
-neither : (a b : Bool) → not a && not b ≡ true → (a ≡ false) × (b ≡ false)
-neither true b h = never h refl
-neither false true h = never h refl
-neither false false h = (refl, refl)
-
-one : (a b : Bool) → not a && not b ≡ false → (a ≡ true) ⊎ (b ≡ true)
-one true b h = inl refl
-one false true h = inr refl
-one false false h = never refl h
-
--- the test of the loop of `entry`
-pub goes_on : (n x : ℕ) → not (eqb n 0) && not (eqb x 0) ≡ true → (n ≡ 0 → ⊥) × (x ≡ 0 → ⊥)
-goes_on n x h =
-    let both = neither (eqb n 0) (eqb x 0) h in (refuted (says_eq n 0) both.0, refuted (says_eq x 0) both.1)
-
--- `entry`: what it looks for in context n is what it looks for, one step nearer, in the parent
+-- `nearest`
 module _ (contexts : List ℕ) where
-  pub parent_numbered : (n p : ℕ) → NumberedContexts contexts (n ∷ []) → (n ≡ 0 → ⊥) → p ≡ parent_of contexts n → NumberedContexts contexts (p ∷ [])
-  parent_numbered n p g some e =
-      let l = (g.table.rows n (omega arith) (omega (arith, g.within.0))).earlier in
-      record { term_count = g.term_count; count = g.count; table = g.table; within = (omega (arith, g.within.0), tt) }
-
-  pub found_here : (n x : ℕ) → (n ≡ 0 → ⊥) → x ≡ 0 → At (type_of contexts n) ≡ entry_of contexts n x
+  pub found_here : (n x : ℕ) → (n ≡ 0 → ⊥) → x ≡ 0 → Some (type_of contexts n) ≡ entry_of contexts n x
   unfolding entry_of
   found_here zero zero h e = absurd (h refl)
   found_here zero (suc x) h e = absurd (h refl)
   found_here (suc n) zero h e = refl
   found_here (suc n) (suc x) h e = absurd (omega arith)
 
-  pub found_further : (n x : ℕ) → (n ≡ 0 → ⊥) → (x ≡ 0 → ⊥) → entry_of contexts (parent_of contexts n) (x - 1) ≡ entry_of contexts n x
-  unfolding entry_of
-  found_further n zero h k = absurd (k refl)
-  found_further zero (suc x) h k = absurd (h refl)
-  found_further (suc n) (suc x) h k = let e : suc x - 1 ≡ x = omega arith in ap (entry_of contexts (parent_of contexts (suc n))) e
-
-  pub found_none : (n x : ℕ) → n ≡ 0 → Missing ≡ entry_of contexts n x
+  pub found_none : (n x : ℕ) → n ≡ 0 → None ≡ entry_of contexts n x
   unfolding entry_of
   found_none zero zero h = refl
   found_none zero (suc x) h = refl
   found_none (suc n) x h = absurd (omega arith)
-
-  -- where its loop ends
-  pub found_end : (n x : ℕ) → not (eqb n 0) && not (eqb x 0) ≡ false → entry_of contexts n 0 ≡ entry_of contexts n x
-  found_end n x h =
-      ⊎_elim (λ e. let z = (says_eq n 0).0 e in sym (found_none n 0 z) ∙ found_none n x z)
-      (λ e. ap (entry_of contexts n) (sym ((says_eq x 0).0 e))) (one (eqb n 0) (eqb x 0) h)

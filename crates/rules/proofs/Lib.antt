@@ -6,6 +6,7 @@ pub mod CandidateLaws
 pub mod ContextLaws
 pub mod TypingLaws
 pub mod EqualityLaws
+pub mod CongruenceLaws
 pub mod SubtypingLaws
 pub mod NormalisationLaws
 pub mod ContextTableLaws
@@ -14,6 +15,7 @@ pub mod ContextTableEntries
 pub mod ContextTableAnswers
 pub mod UniverseLaws
 pub mod ContextRuleAnswers
+pub mod AncestorLaws
 pub mod ArmLaws
 pub mod RangeLaws
 pub mod RuleTableEntries

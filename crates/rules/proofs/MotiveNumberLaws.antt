@@ -2,20 +2,17 @@
 -- Assumes nothing.
 use mathlib.Core.Path.{◌≡◌, refl, sym, ◌∙◌, ap, ap₂}
 use mathlib.Core.Logic.{◌↔◌}
-use mathlib.Core.Bool.{Bool, true, false, ◌||◌, not}
 use mathlib.Core.List.{List, [], ◌∷◌}
 use Prim.Native.Nat.{ℕ, ◌*◌, ◌≤◌, ◌<◌}
 use native.Mathlib.Omega.{arith}
-use borrow.Author.Tests.{eqb-true, eqb-false, eq-eqb}
-use lib.Dec.{eqb}
 use lib.ListN.{length}
 use Rattle.terms.specs.Term.{nat}
 use Rattle.terms.specs.Rows.{term}
-use Rattle.terms.proofs.Tests.{never, refuted}
+use Rattle.terms.proofs.Tests.{refuted}
 use Rattle.terms.proofs.TermLaws.{same_row}
 use Rattle.rules.specs.Subjects.{used_subjects}
 use Rattle.rules.specs.Conditions.{IsUniverse}
-use Rattle.rules.specs.Contexts.{parent_of, type_of, context, ContextsInTable}
+use Rattle.rules.specs.Contexts.{parent_of, type_of, context}
 use Rattle.rules.specs.Motives.{GivesMotive}
 use Rattle.rules.specs.MotiveNumbers.{motive_number, MotiveAskedBy, MotiveGivenBy}
 use Rattle.rules.specs.RuleChecks.{JudgmentsInTables}
@@ -23,33 +20,19 @@ use Rattle.rules.specs.Stated.{stated}
 use Rattle.rules.specs.declared.judgments.LineJudgment.{LineJudgment}
 use Rattle.rules.proofs.ArmLaws.{subjects_below}
 use Rattle.rules.proofs.ContextTableLaws.{Earlier, context_step, same_number}
-use Rattle.rules.proofs.ContextTableAnswers.{other_contexts, empty_says}
+use Rattle.rules.proofs.ContextTableAnswers.{empty_says}
 use Rattle.rules.proofs.MotiveLaws.{gives_parts, gives_form}
 
 -- a number tells the context and the row
 same_motive : (G H r s : ℕ) → r < 4096 → s < 4096 → (motive_number G r ≡ motive_number H s) ↔ ((G ≡ H) × (r ≡ s))
 same_motive G H r s low high = (λ e. (omega arith, omega arith), λ e. omega (arith, e.0, e.1))
 
--- where neither way out was taken
-both_failed : (a b : Bool) → (not a || b) ≡ false → (a ≡ true) × (b ≡ false)
-both_failed true true h = never refl h
-both_failed true false h = (refl, refl)
-both_failed false b h = never refl h
-
 -- of form 1, in a context that has an entry: no other line gives a motive a universe
 abbrev pub HasEntry : LineJudgment → Type 0
-HasEntry p = (p.form ≡ 1) × (p.context ≡ 0 → ⊥)
-
-pub has_entry : (form context : ℕ) → (not (eqb form 1) || eqb context 0) ≡ false → (form ≡ 1) × (context ≡ 0 → ⊥)
-has_entry form context h =
-    let tests = both_failed (eqb form 1) (eqb context 0) h in
-    (eqb-true form 1 tests.0, eqb-false context 0 tests.1)
+HasEntry p = (p.form ≡ 1) × (0 < p.context)
 
 -- what the callees ask of a line
 module _ {terms contexts : List ℕ} {p : LineJudgment} (given : JudgmentsInTables terms contexts (p ∷ [])) where
-  pub context_known : ContextsInTable terms contexts (p.context ∷ [])
-  context_known = other_contexts given.given (omega (arith, given.numbered.0.within), tt)
-
   module _ (line : HasEntry p) where
     pub context_row : (1 ≤ p.context) × (4 * p.context ≤ length contexts)
     context_row = (omega (arith, line.1), omega (arith, given.numbered.0.within, given.given.table.whole))
@@ -69,13 +52,14 @@ module _ (terms contexts : List ℕ) (p : LineJudgment) where
       → MotiveGivenBy terms contexts p 0
   none h c asked given form a = (λ e. absurd (omega (arith, e, a.is)), λ g. absurd (h c asked given form a g))
 
-  pub no_entry : (not (eqb p.form 1) || eqb p.context 0) ≡ true → MotiveGivenBy terms contexts p 0
+  pub no_entry : (HasEntry p → ⊥) → MotiveGivenBy terms contexts p 0
   no_entry h =
       none
       (λ c asked given form a g.
       let typed = gives_form terms contexts p (stated terms contexts c) given.numbered.1.0.form g in
       let parts = (gives_parts terms contexts p c typed form a.motive).1 g in
-      let empty = eqb-true p.context 0 (rw (eq-eqb p.form 1 typed) at h) in
+      let some : 0 < p.context → ⊥ = λ l. h (typed, l) in
+      let empty : p.context ≡ 0 = omega (arith, some) in
       refuted (empty_says terms contexts p.context nat (context terms contexts c.context) empty) refl
       parts.0.0)
 

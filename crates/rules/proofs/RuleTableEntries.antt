@@ -1,15 +1,16 @@
 -- The rule table read at each rule and column: its numbers are bytes and make the rule's row; the test of a rule's
--- number, and that where there is no rule there is no form. That the constant is the table is `rule_table`'s promise.
+-- number, and that where there is no rule there is no form. That the constant is the table is what the type
+-- `RuleTable` says.
 -- Assumes nothing.
 use mathlib.Core.Path.{◌≡◌, refl, sym}
 use mathlib.Core.List.{List, [], ◌∷◌}
-use Prim.Native.Nat.{ℕ, zero, suc, ◌+◌, ◌-◌, ◌*◌, ◌≤◌, ◌<◌}
+use Prim.Native.Nat.{ℕ, zero, suc, ◌+◌, ◌-◌, ◌*◌, ◌<◌}
 use native.Mathlib.Omega.{arith}
 use lib.ListN.{get_or, length}
-use Rattle.terms.proofs.Tables.{at_most}
 use Rattle.terms.specs.Decides.{Decides}
 use Rattle.terms.proofs.Tests.{says_le, refutes, ◌&◌}
-use Rattle.rules.specs.RuleTable.{rule_count, IsRule, rule_known, rule_table, table_at, premise_form, added_entries, rule_row, form_of, premise_count}
+use Rattle.rules.specs.RuleTable.{rule_count, IsRule, rule_known, rule_table, table_at, premise_form, added_entries, demand, rule_row, form_of, premise_count}
+use Rattle.rules.specs.declared.table.Demand.{Demand}
 use Rattle.rules.specs.declared.table.RuleRow.{RuleRow}
 use Rattle.rules.proofs.TableLaws.{table_length}
 
@@ -23,35 +24,23 @@ pub table_entry : (rule column : ℕ) → IsRule rule → column < 10 → get_or
 unfolding table_at
 table_entry rule column known small = within rule_table (10 * (rule - 1) + column) 0 255 (omega (arith, known, table_length))
 
--- every number is a byte
-pub table_most : (k : ℕ) → get_or rule_table k 0 ≤ 255
-unfolding rule_table
-table_most k = at_most 255 rule_table refl k
+-- the numbers of columns 2 + j and 6 + j make the demand, and demands the row
+pub demand_is : (rule j : ℕ) {f a : ℕ} → f ≡ table_at rule (2 + j) → a ≡ table_at rule (6 + j)
+    → ◌≡◌ {A = Demand} (record { form = f; added = a }) (demand rule j)
+unfolding demand premise_form added_entries
+demand_is rule j e h = cc
 
--- nine equal numbers make equal rows
-row_of : (f : ℕ → ℕ) {n a b c d i j k l : ℕ}
-    → n ≡ f 1 → a ≡ f 2 → b ≡ f 3 → c ≡ f 4 → d ≡ f 5 → i ≡ f 6 → j ≡ f 7 → k ≡ f 8 → l ≡ f 9
+row_of : (f : ℕ → Demand) {m n : ℕ} {a b c d : Demand} → n ≡ m → a ≡ f 0 → b ≡ f 1 → c ≡ f 2 → d ≡ f 3
     → ◌≡◌ {A = RuleRow}
-    (record { count = n; form0 = a; form1 = b; form2 = c; form3 = d; added0 = i; added1 = j; added2 = k; added3 = l })
-    (record {
-      count = f 1;
-      form0 = f 2;
-      form1 = f 3;
-      form2 = f 4;
-      form3 = f 5;
-      added0 = f 6;
-      added1 = f 7;
-      added2 = f 8;
-      added3 = f 9;
-    })
-row_of f en ea eb ec ed ei ej ek el = cc
+    (record { count = n; p = a; q = b; r = c; s = d })
+    (record { count = m; p = f 0; q = f 1; r = f 2; s = f 3 })
+row_of f en ea eb ec ed = cc
 
--- the numbers of columns 1 to 9 make the row
-pub row_is : (rule : ℕ) {n a b c d i j k l : ℕ} → n ≡ table_at rule 1 → a ≡ table_at rule 2 → b ≡ table_at rule 3 → c ≡ table_at rule 4 → d ≡ table_at rule 5
-    → i ≡ table_at rule 6 → j ≡ table_at rule 7 → k ≡ table_at rule 8 → l ≡ table_at rule 9
-    → ◌≡◌ {A = RuleRow} (record { count = n; form0 = a; form1 = b; form2 = c; form3 = d; added0 = i; added1 = j; added2 = k; added3 = l }) (rule_row rule)
-unfolding rule_row premise_count premise_form added_entries
-row_is rule = row_of (table_at rule)
+pub row_is : (rule : ℕ) {n : ℕ} {a b c d : Demand} → n ≡ premise_count rule
+    → a ≡ demand rule 0 → b ≡ demand rule 1 → c ≡ demand rule 2 → d ≡ demand rule 3
+    → ◌≡◌ {A = RuleRow} (record { count = n; p = a; q = b; r = c; s = d }) (rule_row rule)
+unfolding rule_row
+row_is rule = row_of (demand rule)
 
 -- the test of a rule's number
 pub says_rule : (rule : ℕ) → Decides (rule_known rule) (IsRule rule)

@@ -1,63 +1,37 @@
--- What a premise adds is found by going up from its context, and the rule table's demands on four premises are tested
--- one by one.
+-- The context that entries are counted from, and the rule table's demands on four premises, tested one by one.
 -- Assumes nothing.
 use mathlib.Core.Path.{◌≡◌, refl, sym, ◌∙◌, ap, subst₂}
 use mathlib.Core.Logic.{◌↔◌}
-use mathlib.Core.Bool.{Bool, true, false, ◌&&◌}
-use mathlib.Core.List.{List, [], ◌∷◌, ◌++◌, map, cons≢nil}
-use Prim.Native.Nat.{ℕ, zero, suc, ◌+◌, ◌-◌, ◌≤◌, ◌<◌}
+use mathlib.Core.Bool.{Bool, true, ◌&&◌}
+use mathlib.Core.List.{List, [], ◌∷◌, map}
+use Prim.Native.Nat.{ℕ, zero, suc, ◌+◌, ◌≤◌, ◌<◌}
 use native.Mathlib.Decide.{dec_le}
 use native.Mathlib.Omega.{arith}
 use borrow.Author.Tests.{eqb-true, eq-eqb}
 use lib.Dec.{eqb}
 use lib.ListN.{get_or, length, take, drop}
 use Rattle.terms.specs.Decides.{Decides}
-use Rattle.terms.specs.Term.{Term}
-use Rattle.terms.specs.Rows.{term}
 use Rattle.terms.specs.Lists.{AllBelow}
-use Rattle.terms.proofs.Tests.{says_yes, says_no, decides_via, ◌&◌}
+use Rattle.terms.proofs.Tests.{says_yes, decides_via, ◌&◌}
 use Rattle.rules.specs.Judgment.{Context}
-use Rattle.rules.specs.RuleTable.{IsRule, premise_count, premise_form, added_entries, rule_row, counted_from, Adds}
-use Rattle.rules.specs.Contexts.{parent_of, type_of, context, ContextsInTable}
+use Rattle.rules.specs.RuleTable.{IsRule, premise_count, premise_form, added_entries, demand, rule_row, counted_from, Adds}
+use Rattle.rules.specs.Contexts.{parent_of, context, ContextsInTable}
 use Rattle.rules.specs.Stated.{used_premises}
 use Rattle.rules.specs.RuleChecks.{ShapedFrom, Shaped, rule_contexts}
 use Rattle.rules.specs.declared.judgments.LineJudgment.{LineJudgment}
+use Rattle.rules.specs.declared.table.Demand.{Demand}
 use Rattle.rules.specs.declared.table.RuleRow.{RuleRow}
 use Rattle.rules.proofs.TableLaws.{row_agrees, counted_same}
-use Rattle.rules.proofs.ContextTableLaws.{context_empty, context_step}
-use Rattle.rules.proofs.ContextTableAnswers.{same_says, other_contexts, parent_given}
-use Rattle.rules.proofs.ArmLaws.{adds_none, Fits}
-
-adds_same : {H G : Context} {k : ℕ} → k ≡ 0 → (H ≡ G) ↔ Adds H G k
-adds_same z = (λ e. record { new = []; many = sym z; joined = e }, λ a. adds_none a z)
-
--- one entry more on both sides
-adds_next : {H K G : Context} {A : Term} {k m : ℕ} → K ≡ A ∷ H → k ≡ suc m → Adds H G m ↔ Adds K G k
-adds_next {H} {K} {G} {A} {k} {m} e f = (
-  λ a. record { new = A ∷ a.new; many = omega (arith, a.many); joined = e ∙ ap (λ L. A ∷ L) a.joined },
-  λ a. back a.new a.many a.joined,
-)
-  where
-    back : (new : Context) → length new ≡ k → K ≡ new ++ G → Adds H G m
-    back [] l j = absurd (omega arith)
-    back (B ∷ new) l j = record { new = new; many = omega arith; joined = cc }
-
--- to the empty context nothing has been added
-adds_empty : {H G : Context} {k : ℕ} → H ≡ [] → (k ≡ 0 → ⊥) → Adds H G k → ⊥
-adds_empty {H} {G} {k} e some a = none a.new a.many a.joined
-  where
-    none : (new : Context) → length new ≡ k → H ≡ new ++ G → ⊥
-    none [] l j = some (sym l)
-    none (B ∷ new) l j = cons≢nil (sym j ∙ e)
+use Rattle.rules.proofs.ContextTableLaws.{context_empty}
+use Rattle.rules.proofs.ContextTableAnswers.{other_contexts}
+use Rattle.rules.proofs.ArmLaws.{Fits}
+use Rattle.rules.proofs.AncestorLaws.{parent_step}
 
 -- the row's fields by place
-abbrev form_at : RuleRow → ℕ → ℕ
-form_at row j = get_or (row.form0 ∷ row.form1 ∷ row.form2 ∷ row.form3 ∷ []) j 255
+abbrev demand_at : RuleRow → ℕ → Demand
+demand_at row j = get_or (row.p ∷ row.q ∷ row.r ∷ row.s ∷ []) j row.s
 
-abbrev added_at : RuleRow → ℕ → ℕ
-added_at row j = get_or (row.added0 ∷ row.added1 ∷ row.added2 ∷ row.added3 ∷ []) j 255
-
-one_of_four : (f : ℕ → ℕ) (j : ℕ) → j < 4 → get_or (f 0 ∷ f 1 ∷ f 2 ∷ f 3 ∷ []) j 255 ≡ f j
+one_of_four : (f : ℕ → Demand) (j : ℕ) → j < 4 → get_or (f 0 ∷ f 1 ∷ f 2 ∷ f 3 ∷ []) j (f 3) ≡ f j
 one_of_four f zero l = refl
 one_of_four f (suc zero) l = refl
 one_of_four f (suc (suc zero)) l = refl
@@ -65,38 +39,6 @@ one_of_four f (suc (suc (suc zero))) l = refl
 one_of_four f (suc (suc (suc (suc j)))) l = absurd (omega arith)
 
 module _ (terms contexts : List ℕ) where
-  parent_step : (n : ℕ) (ns : List ℕ) → ContextsInTable terms contexts (n ∷ ns) → (n ≡ 0 → ⊥)
-      → context terms contexts n ≡ term terms (type_of contexts n) ∷ context terms contexts (parent_of contexts n)
-  parent_step n ns g some =
-      context_step terms contexts g.count (λ m low high. (g.table.rows m low high).earlier) n (omega arith) (omega (arith, g.within.0))
-
-  -- `adds`: what is left to be found from the context `at` on is what was asked
-  module _ (n base count : ℕ) where
-    pub record Climbed (at left : ℕ) : Type 0 where
-      pub given : ContextsInTable terms contexts (at ∷ base ∷ [])
-      pub same : Adds (context terms contexts at) (context terms contexts base) left ↔ Adds (context terms contexts n) (context terms contexts base) count
-
-    pub climbed_start : ContextsInTable terms contexts (n ∷ base ∷ []) → Climbed n count
-    climbed_start g = record { given = g; same = (λ a. a, λ a. a) }
-
-    module _ (at left : ℕ) (h : Climbed at left) where
-      pub climbed_end : left ≡ 0 → Decides (eqb at base) (Adds (context terms contexts n) (context terms contexts base) count)
-      climbed_end e = decides_via h.same (decides_via (adds_same e) (same_says terms contexts at base h.given))
-
-      module _ (more : left ≡ 0 → ⊥) where
-        pub climbed_short : at ≡ 0 → Decides false (Adds (context terms contexts n) (context terms contexts base) count)
-        climbed_short e = says_no (λ a. adds_empty (ap (context terms contexts) e ∙ context_empty terms contexts) more (h.same.1 a))
-
-        pub climbed_next : (above : ℕ) → (at ≡ 0 → ⊥) → above ≡ parent_of contexts at → Climbed above (left - 1)
-        climbed_next above some e =
-            record {
-              given = parent_given terms contexts at above (base ∷ []) h.given some e;
-              same = (λ a. h.same.0 (step.0 a), λ a. step.1 (h.same.1 a));
-            }
-          where
-            step : Adds (context terms contexts above) (context terms contexts base) (left - 1) ↔ Adds (context terms contexts at) (context terms contexts base) left
-            step = adds_next (parent_step at (base ∷ []) h.given some ∙ ap (λ m. term terms (type_of contexts at) ∷ context terms contexts m) (sym e)) (omega arith)
-
   -- `counted_from`
   module _ (rule n : ℕ) where
     pub counted_itself : (rule ≡ 2 → ⊥) → context terms contexts n ≡ counted_from rule (context terms contexts n)
@@ -113,22 +55,22 @@ module _ (terms contexts : List ℕ) where
       pub counted_parent : (above : ℕ) → ContextsInTable terms contexts (n ∷ []) → (n ≡ 0 → ⊥) → above ≡ parent_of contexts n
           → (context terms contexts above ≡ counted_from rule (context terms contexts n)) × (above ≤ n)
       counted_parent above g some f = (
-        ap (context terms contexts) f ∙ sym (shorter (context terms contexts n) ∙ ap (drop 1) (parent_step n [] g some)),
+        ap (context terms contexts) f ∙ sym (shorter (context terms contexts n) ∙ ap (drop 1) (parent_step terms contexts n [] g some)),
         omega (arith, g.within.0, (g.table.rows n (omega arith) (omega (arith, g.within.0))).earlier),
       )
 
   -- `fits_if_used`: what a place of the row asks of a premise, unless its form is 255
-  module _ (base form added : ℕ) (p : LineJudgment) where
+  module _ (base : ℕ) (d : Demand) (p : LineJudgment) where
     abbrev FitsFrom : Type 0
-    FitsFrom = (form ≡ 255 → ⊥) → (p.form ≡ form) × Adds (context terms contexts p.context) (context terms contexts base) added
+    FitsFrom = (d.form ≡ 255 → ⊥) → (p.form ≡ d.form) × Adds (context terms contexts p.context) (context terms contexts base) d.added
 
-    pub unused_says : form ≡ 255 → Decides true FitsFrom
+    pub unused_says : d.form ≡ 255 → Decides true FitsFrom
     unused_says e = says_yes (λ some. absurd (some e))
 
-    pub fits_says : (b : Bool) → (form ≡ 255 → ⊥) → Decides b (Adds (context terms contexts p.context) (context terms contexts base) added)
-        → Decides (eqb p.form form && b) FitsFrom
-    fits_says b some d =
-        decides_via (λ x k. x, λ f. f some) ((eqb-true p.form form, eq-eqb p.form form) & d)
+    pub fits_says : (b : Bool) → (d.form ≡ 255 → ⊥) → Decides b (Adds (context terms contexts p.context) (context terms contexts base) d.added)
+        → Decides (eqb p.form d.form && b) FitsFrom
+    fits_says b some says =
+        decides_via (λ x k. x, λ f. f some) ((eqb-true p.form d.form, eq-eqb p.form d.form) & says)
 
   -- `shaped`: the demands on those of the premises that stand before place n
   module _ (rule : ℕ) (c : LineJudgment) where
@@ -164,38 +106,42 @@ module _ (terms contexts : List ℕ) where
       abbrev premises : List LineJudgment
       premises = p ∷ q ∷ r ∷ s ∷ []
 
-      form_at_lem : (j : ℕ) → j < 4 → form_at row j ≡ premise_form rule j
+      demand_is : (j : ℕ) → j < 4 → demand_at row j ≡ demand rule j
       unfolding rule_row
-      form_at_lem j l = ap (λ w. form_at w j) is_row ∙ one_of_four (premise_form rule) j l
+      demand_is j l = ap (λ w. demand_at w j) is_row ∙ one_of_four (demand rule) j l
 
-      added_at_lem : (j : ℕ) → j < 4 → added_at row j ≡ added_entries rule j
-      unfolding rule_row
-      added_at_lem j l = ap (λ w. added_at w j) is_row ∙ one_of_four (added_entries rule) j l
+      form_is : (j : ℕ) → j < 4 → (demand_at row j).form ≡ premise_form rule j
+      unfolding demand
+      form_is j l = ap (λ d. d.form) (demand_is j l)
+
+      added_is : (j : ℕ) → j < 4 → (demand_at row j).added ≡ added_entries rule j
+      unfolding demand
+      added_is j l = ap (λ d. d.added) (demand_is j l)
 
       -- a place asks for a premise where the rule uses one
-      used_at : (j : ℕ) → j < 4 → (form_at row j ≡ 255 → ⊥) ↔ (j < premise_count rule)
+      used_at : (j : ℕ) → j < 4 → ((demand_at row j).form ≡ 255 → ⊥) ↔ (j < premise_count rule)
       used_at j l = let marks = (row_agrees rule known).forms j l in (
-        λ some. elim (dec_le (premise_count rule) j) [ yes m ↦ absurd (some (form_at_lem j l ∙ marks.1 m)) | no m ↦ omega arith ],
-        λ m e. let n : premise_count rule ≤ j = marks.0 (sym (form_at_lem j l) ∙ e) in omega arith,
+        λ some. elim (dec_le (premise_count rule) j) [ yes m ↦ absurd (some (form_is j l ∙ marks.1 m)) | no m ↦ omega arith ],
+        λ m e. let n : premise_count rule ≤ j = marks.0 (sym (form_is j l) ∙ e) in omega arith,
       )
 
       pub used_given : ContextsInTable terms contexts (rule_contexts (used_premises rule premises) c)
-          → (j : ℕ) → j < 4 → (form_at row j ≡ 255 → ⊥) → ContextsInTable terms contexts ((get_or premises j c).context ∷ base ∷ [])
+          → (j : ℕ) → j < 4 → ((demand_at row j).form ≡ 255 → ⊥) → ContextsInTable terms contexts ((get_or premises j c).context ∷ base ∷ [])
       unfolding used_premises
       used_given g j l some =
           other_contexts g
           (below_used (suc g.count) (premise_count rule) premises g.within.1 j ((used_at j l).0 some) l, (omega (arith, is_base.1, g.within.0), tt))
 
-      as_asked : (j : ℕ) → j < 4 → (k : LineJudgment) {b : Bool} → Decides b (FitsFrom base (form_at row j) (added_at row j) k)
+      as_asked : (j : ℕ) → j < 4 → (k : LineJudgment) {b : Bool} → Decides b (FitsFrom base (demand_at row j) k)
           → Decides b (j < premise_count rule → Fits terms contexts rule from k j)
       as_asked j l k d =
           decides_via (
-            λ f m. let x = f ((used_at j l).1 m) in (x.0 ∙ form_at_lem j l, subst₂ (Adds (context terms contexts k.context)) is_base.0 (added_at_lem j l) x.1),
-            λ f some. let x = f ((used_at j l).0 some) in (x.0 ∙ sym (form_at_lem j l), subst₂ (Adds (context terms contexts k.context)) (sym is_base.0) (sym (added_at_lem j l)) x.1),
+            λ f m. let x = f ((used_at j l).1 m) in (x.0 ∙ form_is j l, subst₂ (Adds (context terms contexts k.context)) is_base.0 (added_is j l) x.1),
+            λ f some. let x = f ((used_at j l).0 some) in (x.0 ∙ sym (form_is j l), subst₂ (Adds (context terms contexts k.context)) (sym is_base.0) (sym (added_is j l)) x.1),
           ) d
 
-      pub shaped_says : {x y z w : Bool} → Decides x (FitsFrom base row.form0 row.added0 p) → Decides y (FitsFrom base row.form1 row.added1 q)
-          → Decides z (FitsFrom base row.form2 row.added2 r) → Decides w (FitsFrom base row.form3 row.added3 s)
+      pub shaped_says : {x y z w : Bool} → Decides x (FitsFrom base row.p p) → Decides y (FitsFrom base row.q q)
+          → Decides z (FitsFrom base row.r r) → Decides w (FitsFrom base row.s s)
           → Decides (((x && y) && z) && w) (Shaped terms contexts rule premises c)
       unfolding used_premises
       shaped_says hx hy hz hw =

@@ -2,15 +2,16 @@
 -- Assumes nothing.
 use mathlib.Core.Path.{◌≡◌, refl}
 use mathlib.Core.Logic.{◌↔◌}
-use mathlib.Core.Bool.{true, false}
+use mathlib.Core.Bool.{true, false, ◌&&◌, ◌||◌, not}
 use Prim.Native.Nat.{ℕ, zero, suc, ◌≤◌, ◌<◌}
 use native.Mathlib.Decide.{dec_le}
 use native.Mathlib.Omega.{arith}
-use borrow.Author.Tests.{le-leb, lt-leb}
-use lib.Dec.{leb}
+use borrow.Author.Tests.{le-leb, lt-leb, ne_eqb}
+use lib.Dec.{leb, eqb}
 use Rattle.terms.specs.Decides.{Decides}
 use Rattle.terms.proofs.Tests.{never, says_le, decides_via}
-use Rattle.rules.specs.Subjects.{uses_subject}
+use Rattle.rules.specs.Subjects.{uses_subject, use_of}
+use Rattle.rules.specs.declared.judgments.SubjectUse.{SubjectUse}
 use Rattle.rules.specs.Stated.{last_form_in_context, last_context}
 
 -- what holds of each form and of the numbers behind the last holds of every number
@@ -24,6 +25,30 @@ by_form P p0 p1 p2 p3 p4 p5 p6 behind (suc (suc (suc (suc zero)))) = p4
 by_form P p0 p1 p2 p3 p4 p5 p6 behind (suc (suc (suc (suc (suc zero))))) = p5
 by_form P p0 p1 p2 p3 p4 p5 p6 behind (suc (suc (suc (suc (suc (suc zero)))))) = p6
 by_form P p0 p1 p2 p3 p4 p5 p6 behind (suc (suc (suc (suc (suc (suc (suc f))))))) = behind f
+
+-- the tests of `subject_use` together
+abbrev tested : ℕ → SubjectUse
+tested form =
+    record {
+      s1 = leb form 6 && not (eqb form 0);
+      s2 = eqb form 2 || eqb form 3 || eqb form 6;
+      s3 = eqb form 1 || eqb form 2;
+    }
+
+pub use_is : (form : ℕ) → tested form ≡ use_of form
+unfolding uses_subject
+use_is = by_form (λ form. tested form ≡ use_of form) refl refl refl refl refl refl refl behind
+  where
+    behind : (f : ℕ) → tested (suc (suc (suc (suc (suc (suc (suc f))))))) ≡ use_of (suc (suc (suc (suc (suc (suc (suc f)))))))
+    behind f =
+        let form = suc (suc (suc (suc (suc (suc (suc f)))))) in
+        rw (
+          lt-leb form 6 (omega arith),
+          ne_eqb form 1 (λ e. omega (arith, e)),
+          ne_eqb form 2 (λ e. omega (arith, e)),
+          ne_eqb form 3 (λ e. omega (arith, e)),
+          ne_eqb form 6 (λ e. omega (arith, e)),
+        )
 
 -- no form uses a subject past the third
 pub unused_past : (form k : ℕ) → uses_subject form (suc (suc (suc k))) ≡ false

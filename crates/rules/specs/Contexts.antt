@@ -1,17 +1,14 @@
 -- The context table in bytes and its check, number 8: document 01, "The sheet". A row is two words, the parent and the
 -- type. Context 0 is the empty one and has no row; rows are numbered from 1, so row n stands at place n - 1. The bytes
 -- begin with the table and may go on behind it.
-use Rattle.std.specs.Prelude.{◌≡◌, ◌⊎◌, Bool, false, ◌&&◌, ◌||◌, not, List, [], ◌∷◌, ℕ, zero, suc, ◌+◌, ◌-◌, ◌*◌, ◌≤◌, ◌<◌, ltb, eqb, length}
+use Rattle.std.specs.Prelude.{◌≡◌, ◌⊎◌, Bool, false, ◌&&◌, ◌||◌, not, List, [], ◌∷◌, ℕ, zero, suc, ◌+◌, ◌-◌, ◌*◌, ◌≤◌, ◌<◌, ltb, eqb, length, Option, Some, None, Result, Ok, Err}
 use Rattle.terms.specs.Words.{word_at}
 use Rattle.terms.specs.Rows.{term}
 use Rattle.terms.specs.Table.{TermTable}
 use Rattle.terms.specs.Lists.{AllBelow}
 use Rattle.terms.specs.Search.{first_at}
 use Rattle.rules.specs.Judgment.{Context}
-use Rattle.rules.specs.declared.contexts.ContextsAnswer.{ContextsAnswer}
-use Rattle.rules.specs.declared.contexts.ContextsAnswer.TheVariants.{NoFault, Faulty}
-use Rattle.rules.specs.declared.contexts.FoundEntry.{FoundEntry}
-use Rattle.rules.specs.declared.contexts.FoundEntry.TheVariants.{At, Missing}
+use Rattle.rules.specs.declared.contexts.ContextsError.{ContextsError}
 
 -- the first word of row n, a context's number
 unfoldable pub parent_of : List ℕ → ℕ → ℕ
@@ -103,12 +100,21 @@ repeated_context contexts n = repeated_within contexts (parent_of contexts n) (t
 unfoldable pub right_context : List ℕ → ℕ → ℕ → Bool
 right_context contexts term_count n = context_fits contexts term_count n && not (repeated_context contexts n)
 
+-- the refusal of row n
+abbrev pub faulty_context : ℕ → Result (Unit {0}) ContextsError
+faulty_context n = Err (record { place = n })
+
 -- number 8 over the given numbers of terms and of contexts: the first faulty row's number is the place
-unfoldable pub check_contexts : List ℕ → ℕ → ℕ → ContextsAnswer
-check_contexts contexts term_count count = first_at (λ n. not (right_context contexts term_count n)) Faulty NoFault count 1
+unfoldable pub check_contexts : List ℕ → ℕ → ℕ → Result (Unit {0}) ContextsError
+check_contexts contexts term_count count = first_at (λ n. not (right_context contexts term_count n)) faulty_context (Ok tt) count 1
+
+-- the context k steps up from context n by parents, if there are so many
+unfoldable pub ancestor_of : List ℕ → ℕ → ℕ → Option ℕ
+ancestor_of contexts n zero = Some n
+ancestor_of contexts n (suc k) = elim n [ zero ↦ None | suc m ↦ ancestor_of contexts (parent_of contexts (suc m)) k ]
 
 -- the row of A for the condition x : A in G of WT-VAR, where x is a variable's index and G is context n, if G has so
 -- many entries
-unfoldable pub entry_of : List ℕ → ℕ → ℕ → FoundEntry
-entry_of contexts n zero = elim n [ zero ↦ Missing | suc m ↦ At (type_of contexts (suc m)) ]
-entry_of contexts n (suc x) = elim n [ zero ↦ Missing | suc m ↦ entry_of contexts (parent_of contexts (suc m)) x ]
+unfoldable pub entry_of : List ℕ → ℕ → ℕ → Option ℕ
+entry_of contexts n zero = elim n [ zero ↦ None | suc m ↦ Some (type_of contexts (suc m)) ]
+entry_of contexts n (suc x) = elim n [ zero ↦ None | suc m ↦ entry_of contexts (parent_of contexts (suc m)) x ]

@@ -4,7 +4,9 @@
 -- context is well formed is not looked at: a check is asked without it, and promises its answer for any.
 use Rattle.std.specs.Prelude.{◌≡◌, Bool, true, false, List, [], ◌∷◌, ◌++◌, map, ℕ, suc, eqb}
 use Rattle.terms.specs.Decides.{Decides}
+use Rattle.terms.specs.Rows.{term}
 use Rattle.terms.specs.Table.{RowsInTable}
+use Rattle.rules.specs.Conditions.{IsUniverse}
 use Rattle.rules.specs.Judgment.{Context, Judgment}
 use Rattle.rules.specs.Subjects.{used_subjects}
 use Rattle.rules.specs.RuleTable.{IsRule, premise_form, added_entries, form_of, counted_from, Adds}
@@ -12,6 +14,11 @@ use Rattle.rules.specs.Instance.{Instance}
 use Rattle.rules.specs.Contexts.{context, ContextsInTable, InTables}
 use Rattle.rules.specs.Stated.{plain_judgment, stated_in, Numbered, AllNumbered, used_premises}
 use Rattle.rules.specs.declared.judgments.LineJudgment.{LineJudgment}
+use Rattle.rules.specs.declared.judgments.Premises.{Premises}
+
+-- the four premises that a check is given, as a list
+abbrev pub in_order : Premises → List LineJudgment
+in_order ps = ps.p ∷ ps.q ∷ ps.r ∷ ps.s ∷ []
 
 -- what a line that keeps the layout gives over well-formed tables: its rule is there, its form is the rule's, and its
 -- numbers and those of the lines that it cites are in range
@@ -39,6 +46,16 @@ ShapedFrom terms contexts rule G j (p ∷ ps) =
 abbrev pub Shaped : List ℕ → List ℕ → ℕ → List LineJudgment → LineJudgment → Type 0
 Shaped terms contexts rule premises c =
     ShapedFrom terms contexts rule (counted_from rule (context terms contexts c.context)) 0 (used_premises rule premises)
+
+-- context n is the context `base` with so many entries added
+abbrev pub AddsTo : List ℕ → List ℕ → ℕ → ℕ → ℕ → Type 0
+AddsTo terms contexts n base added = Adds (context terms contexts n) (context terms contexts base) added
+
+-- what WT-PI and WT-SIG ask of their premises: the type of p and, under it, that of q are in c's universe
+abbrev pub TypesFamily : List ℕ → List ℕ → LineJudgment → LineJudgment → LineJudgment → Type 0
+TypesFamily terms contexts c p q =
+    (context terms contexts q.context ≡ term terms p.s1 ∷ context terms contexts c.context)
+    × (term terms p.s3 ≡ term terms c.s3) × (term terms q.s3 ≡ term terms c.s3) × IsUniverse (term terms c.s3)
 
 -- the subjects that the premises from place j on use
 unfoldable pub subjects_from : ℕ → ℕ → List LineJudgment → List ℕ

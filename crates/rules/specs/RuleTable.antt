@@ -5,6 +5,7 @@
 -- and 69. In all that goes by the table a rule's number is that of its row; `row_in` of Editions gives it.
 use Rattle.std.specs.Prelude.{◌≡◌, ◌↔◌, List, [], ◌∷◌, ◌++◌, Bool, true, false, ◌&&◌, ℕ, ◌+◌, ◌-◌, ◌*◌, ◌≤◌, ◌<◌, leb, eqb, get_or, length, drop}
 use Rattle.rules.specs.Judgment.{Context, Judgment, form, context_of}
+use Rattle.rules.specs.declared.table.Demand.{Demand}
 use Rattle.rules.specs.declared.table.RuleRow.{RuleRow}
 
 -- rows count from 1
@@ -115,20 +116,14 @@ unfoldable pub added_entries : ℕ → ℕ → ℕ
 unfolding table_at
 added_entries rule j = table_at rule (6 + j)
 
+-- what the rule asks of the premise at place j
+unfoldable pub demand : ℕ → ℕ → Demand
+demand rule j = record { form = premise_form rule j; added = added_entries rule j }
+
 -- what the rule asks of its premises
 unfoldable pub rule_row : ℕ → RuleRow
 rule_row rule =
-    record {
-      count = premise_count rule;
-      form0 = premise_form rule 0;
-      form1 = premise_form rule 1;
-      form2 = premise_form rule 2;
-      form3 = premise_form rule 3;
-      added0 = added_entries rule 0;
-      added1 = added_entries rule 1;
-      added2 = added_entries rule 2;
-      added3 = added_entries rule 3;
-    }
+    record { count = premise_count rule; p = demand rule 0; q = demand rule 1; r = demand rule 2; s = demand rule 3 }
 
 -- "The ranges 1-2, 3-16, 17-34 and 35-43 conclude forms 0, 1, 2 and 3", and by document 02, A5, the ranges 44-53, 54-58
 -- and 59-67 forms 4, 5 and 6; rows 68 and 69 what rules 33 and 34 do: the last rule of each range, with its form

@@ -1,25 +1,13 @@
 // The context table: rows of two words, the parent and the type, numbered from 1; context 0 is the empty one.
 ghost use Rattle.std.specs.Prelude.{◌≡◌, [], ◌∷◌, ◌*◌, ◌<◌, ◌≤◌, length};
-ghost use Rattle.terms.specs.Decides.{Decides};
-ghost use Rattle.terms.specs.Term.{nat};
-ghost use Rattle.terms.specs.Rows.{term};
-ghost use Rattle.rules.specs.Contexts.{parent_of, type_of, context, NumberedContexts, ContextsInTable, InTables, holds_context, repeated_within, right_context, check_contexts, entry_of};
+ghost use Rattle.rules.specs.Contexts.{parent_of, type_of, NumberedContexts, holds_context, repeated_within, right_context, check_contexts, ancestor_of, entry_of};
 
-use terms::nodes::{Node, is_node};
 use terms::words::word_at;
 
-// What the check of a table finds: every row is right, or the first faulty row.
-#[derive(Clone, Copy)]
-pub enum ContextsAnswer {
-    NoFault,
-    Faulty { place: usize },
-}
-
-// What a look-up of a variable finds: the row of its type, or that the context is shorter.
-#[derive(Clone, Copy)]
-pub enum FoundEntry {
-    At { row: usize },
-    Missing,
+// The first faulty row of a table.
+#[derive(Clone, Copy, Debug, PartialEq, Eq)]
+pub struct ContextsError {
+    pub place: usize,
 }
 
 // The parent of context `n`.
@@ -53,10 +41,8 @@ fn repeated(contexts: &[u8], above: usize, row: usize, count: usize) -> bool
     requires { 4 * count ≤ length contexts.now }
     ensures { result ≡ repeated_within contexts.now above row count }
 {
-    let mut i = 0;
-    while i < count {
-        i += 1;
-        if holds(contexts, i, above, row) {
+    for i in 0..count {
+        if holds(contexts, i + 1, above, row) {
             return true;
         }
     }
@@ -78,93 +64,51 @@ fn right(contexts: &[u8], term_count: usize, n: usize) -> bool
 }
 
 // Checks the first `count` rows in order, over the given number of terms.
-pub fn check_contexts(contexts: &[u8], term_count: usize, count: usize) -> ContextsAnswer
+pub fn check_contexts(contexts: &[u8], term_count: usize, count: usize) -> Result<(), ContextsError>
     requires { 4 * count ≤ length contexts.now }
     ensures { result ≡ check_contexts contexts.now term_count count }
 {
-    let mut n = 1;
-    while n <= count {
-        if right(contexts, term_count, n) {
-            n += 1;
-        } else {
-            return ContextsAnswer::Faulty { place: n };
+    for n in 1..count + 1 {
+        if !right(contexts, term_count, n) {
+            return Err(ContextsError { place: n });
         }
     }
-    ContextsAnswer::NoFault
+    Ok(())
 }
 
-// Are contexts `m` and `n` equal? The tables are only spoken of: equal contexts have equal numbers.
-pub fn same_context(terms: &[u8], contexts: &[u8], m: usize, n: usize) -> bool
-    requires { ContextsInTable terms.now contexts.now (m ∷ n ∷ []) }
-    ensures { Decides result (context terms.now contexts.now m ≡ context terms.now contexts.now n) }
+// The context `k` steps up from context `n` by parents, if there are so many. `NumberedContexts` is asked of each call,
+// here and below: a type could say that the table is well formed, not which context is named.
+pub fn ancestor(contexts: &[u8], n: usize, k: usize) -> Option<usize>
+    requires { NumberedContexts contexts.now (n ∷ []) }
+    ensures { result ≡ ancestor_of contexts.now n k }
 {
-    m == n
-}
-
-// Is context `n` the context `base` with the type of row `row` added? Equal terms have equal rows, so that none is
-// read.
-pub fn extends(terms: &[u8], contexts: &[u8], n: usize, base: usize, row: usize) -> bool
-    requires { InTables terms.now contexts.now (n ∷ base ∷ []) (row ∷ []) }
-    ensures { Decides result (context terms.now contexts.now n ≡ term terms.now row ∷ context terms.now contexts.now base) }
-{
-    if n == 0 {
-        return false;
+    let mut at = n;
+    for _ in 0..k {
+        if at == 0 {
+            return None;
+        }
+        at = parent(contexts, at);
     }
-    (type_of(contexts, n) == row) & (parent(contexts, n) == base)
-}
-
-// Is context `n` the context `base` with Nat added? Nat need have no row.
-pub fn extends_nat(terms: &[u8], contexts: &[u8], n: usize, base: usize) -> bool
-    requires { ContextsInTable terms.now contexts.now (n ∷ base ∷ []) }
-    ensures { Decides result (context terms.now contexts.now n ≡ nat ∷ context terms.now contexts.now base) }
-{
-    if n == 0 {
-        return false;
-    }
-    is_node(terms, type_of(contexts, n), Node::Nat) & (parent(contexts, n) == base)
-}
-
-// Is context `n` the context `base` with Nat and then the type of row `row` added?
-pub fn extends_nat_then(terms: &[u8], contexts: &[u8], n: usize, base: usize, row: usize) -> bool
-    requires { InTables terms.now contexts.now (n ∷ base ∷ []) (row ∷ []) }
-    ensures { Decides result (context terms.now contexts.now n ≡ term terms.now row ∷ nat ∷ context terms.now contexts.now base) }
-{
-    if n == 0 {
-        return false;
-    }
-    (type_of(contexts, n) == row) & extends_nat(terms, contexts, parent(contexts, n), base)
+    Some(at)
 }
 
 // The nearest entry of context `n`, if there is one.
-fn nearest(contexts: &[u8], n: usize) -> FoundEntry
+fn nearest(contexts: &[u8], n: usize) -> Option<usize>
     requires { NumberedContexts contexts.now (n ∷ []) }
     ensures { result ≡ entry_of contexts.now n 0 }
 {
     if n == 0 {
-        return FoundEntry::Missing;
+        return None;
     }
-    FoundEntry::At {
-        row: type_of(contexts, n),
-    }
+    Some(type_of(contexts, n))
 }
 
-// The row of the type of the entry of context `n` that `x` others are nearer than. The first step up stands apart: the
-// compiler then keeps the loop's context in a register.
-pub fn entry(contexts: &[u8], n: usize, x: usize) -> FoundEntry
+// The row of the type of the entry of context `n` that `x` others are nearer than, if there is one. A call: inlined
+// among the checks of all rules, the climb's context would have no register.
+#[inline(never)]
+pub fn entry(contexts: &[u8], n: usize, x: usize) -> Option<usize>
     requires { NumberedContexts contexts.now (n ∷ []) }
     ensures { result ≡ entry_of contexts.now n x }
 {
-    if x == 0 {
-        return nearest(contexts, n);
-    }
-    if n == 0 {
-        return FoundEntry::Missing;
-    }
-    let mut at = parent(contexts, n);
-    let mut left = x - 1;
-    while (at != 0) & (left != 0) {
-        at = parent(contexts, at);
-        left -= 1;
-    }
-    nearest(contexts, at)
+    nearest(contexts, ancestor(contexts, n, x)?)
 }

@@ -26,7 +26,8 @@ pub fn asks_motive(edition: usize, rule: usize) -> bool
     (3 <= edition) & ((33 <= rule) & (rule <= 34))
 }
 
-// The row of the rule table for a rule in the edition; 0 where the edition does not admit the rule.
+// The row of the rule table for a rule in the edition; 0, as the definition `row_in` of the specs has it, where the
+// edition does not admit the rule.
 pub fn row_in(edition: usize, rule: usize) -> usize
     ensures { result ≡ row_in edition rule }
 {

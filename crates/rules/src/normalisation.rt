@@ -1,13 +1,15 @@
 // Rules 44 to 67: strong normal forms, strong neutral forms and strong head steps. They hold in the empty context
 // alone, so that no check looks at a context, and most ask no more than how terms are made of others.
+#![tactic(auto, using(terms::proofs::Tests::other_rows, crate::proofs::ArmLaws::arm_rows), unfolding(crate::specs::RuleChecks::rule_subjects, crate::specs::Stated::used_premises, crate::specs::RuleTable::premise_count))]
+
 ghost use Rattle.std.specs.Prelude.{◌≡◌, [], ◌∷◌, ◌≤◌};
 ghost use Rattle.terms.specs.Decides.{Decides};
 ghost use Rattle.terms.specs.Rows.{term};
 ghost use Rattle.terms.specs.Nodes.{node_children, node_term};
 ghost use Rattle.terms.specs.Table.{RowsInTable};
-ghost use Rattle.rules.specs.RuleChecks.{SubjectsInTable, DecidesInEmpty};
+ghost use Rattle.rules.specs.RuleChecks.{in_order, SubjectsInTable, DecidesInEmpty};
 
-use crate::judgments::LineJudgment;
+use crate::judgments::{LineJudgment, Premises};
 use crate::universes::is_universe;
 use terms::images::{Subst, is_substituted};
 use terms::nodes::{Node, child, is_node, number, same_term};
@@ -22,19 +24,12 @@ fn are_nodes(terms: &[u8], t: usize, node: Node, u: usize, other: Node) -> bool
 }
 
 // Rules 44 to 53, which conclude form 4.
-pub fn normal_instance(
-    terms: &[u8],
-    rule: usize,
-    c: LineJudgment,
-    p: LineJudgment,
-    q: LineJudgment,
-    r: LineJudgment,
-    s: LineJudgment,
-) -> bool
-    requires subjects_in_table { SubjectsInTable terms.now rule (p ∷ q ∷ r ∷ s ∷ []) c }
+pub fn normal_instance(terms: &[u8], rule: usize, c: LineJudgment, ps: &Premises) -> bool
+    requires subjects_in_table { SubjectsInTable terms.now rule (in_order ps.now) c }
     requires le_rule { (44 ≤ rule) × (rule ≤ 53) }
-    ensures { DecidesInEmpty result terms.now rule (p ∷ q ∷ r ∷ s ∷ []) c }
+    ensures { DecidesInEmpty result terms.now rule (in_order ps.now) c }
 {
+    let Premises { p, q, .. } = ps;
     match rule {
         // N-ABS
         44 => is_node(terms, c.s1, Node::Lam(p.s1)),
@@ -61,19 +56,12 @@ pub fn normal_instance(
 }
 
 // Rules 54 to 58, which conclude form 5.
-pub fn neutral_instance(
-    terms: &[u8],
-    rule: usize,
-    c: LineJudgment,
-    p: LineJudgment,
-    q: LineJudgment,
-    r: LineJudgment,
-    s: LineJudgment,
-) -> bool
-    requires subjects_in_table { SubjectsInTable terms.now rule (p ∷ q ∷ r ∷ s ∷ []) c }
+pub fn neutral_instance(terms: &[u8], rule: usize, c: LineJudgment, ps: &Premises) -> bool
+    requires subjects_in_table { SubjectsInTable terms.now rule (in_order ps.now) c }
     requires le_rule { (54 ≤ rule) × (rule ≤ 58) }
-    ensures { DecidesInEmpty result terms.now rule (p ∷ q ∷ r ∷ s ∷ []) c }
+    ensures { DecidesInEmpty result terms.now rule (in_order ps.now) c }
 {
+    let Premises { p, q, r, s } = ps;
     match rule {
         // N-VAR
         54 => is_node(terms, c.s1, Node::Var(number(terms, c.s1))),
@@ -120,17 +108,11 @@ fn n_indzero(
 }
 
 // N-INDSUC
-fn n_indsuc(
-    terms: &[u8],
-    c: LineJudgment,
-    p: LineJudgment,
-    q: LineJudgment,
-    r: LineJudgment,
-    s: LineJudgment,
-) -> bool
-    requires { SubjectsInTable terms.now 66 (p ∷ q ∷ r ∷ s ∷ []) c }
-    ensures { DecidesInEmpty result terms.now 66 (p ∷ q ∷ r ∷ s ∷ []) c }
+fn n_indsuc(terms: &[u8], c: LineJudgment, ps: &Premises) -> bool
+    requires { SubjectsInTable terms.now 66 (in_order ps.now) c }
+    ensures { DecidesInEmpty result terms.now 66 (in_order ps.now) c }
 {
+    let Premises { p, q, r, s } = ps;
     let z = child(terms, c.s1, 2);
     if are_nodes(
         terms,
@@ -158,23 +140,16 @@ fn n_indsuc(
 
 // Rules 59 to 67, which conclude form 6: 60 is N-APPCONG, 61 and 62 N-PROJPAIR1 and 2, 63 and 64 N-PROJCONG1 and 2, 67
 // N-INDCONG.
-pub fn step_instance(
-    terms: &[u8],
-    rule: usize,
-    c: LineJudgment,
-    p: LineJudgment,
-    q: LineJudgment,
-    r: LineJudgment,
-    s: LineJudgment,
-) -> bool
-    requires subjects_in_table { SubjectsInTable terms.now rule (p ∷ q ∷ r ∷ s ∷ []) c }
+pub fn step_instance(terms: &[u8], rule: usize, c: LineJudgment, ps: &Premises) -> bool
+    requires subjects_in_table { SubjectsInTable terms.now rule (in_order ps.now) c }
     requires le_rule { (59 ≤ rule) × (rule ≤ 67) }
-    ensures { DecidesInEmpty result terms.now rule (p ∷ q ∷ r ∷ s ∷ []) c }
+    ensures { DecidesInEmpty result terms.now rule (in_order ps.now) c }
 {
+    let Premises { p, q, r, s } = ps;
     // what rules 61 and 62 project
     let d = child(terms, c.s1, 1);
     match rule {
-        59 => n_appabs(terms, c, p),
+        59 => n_appabs(terms, c, *p),
         60 => are_nodes(
             terms,
             c.s1,
@@ -186,8 +161,8 @@ pub fn step_instance(
         62 => are_nodes(terms, c.s1, Node::Second(d), d, Node::Pair(p.s1, c.s2)),
         63 => are_nodes(terms, c.s1, Node::First(p.s1), c.s2, Node::First(p.s2)),
         64 => are_nodes(terms, c.s1, Node::Second(p.s1), c.s2, Node::Second(p.s2)),
-        65 => n_indzero(terms, c, p, q, r),
-        66 => n_indsuc(terms, c, p, q, r, s),
+        65 => n_indzero(terms, c, *p, *q, *r),
+        66 => n_indsuc(terms, c, ps),
         67 => are_nodes(
             terms,
             c.s1,

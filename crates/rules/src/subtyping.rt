@@ -1,11 +1,14 @@
-// The own checks of rules 35 to 43, subtyping.
+// The own checks of rules 35 to 43, subtyping. Those of Pi and of Sigma are no twins: Pi turns its first parts round,
+// so that they differ in which rows go where, and not in the node alone.
+#![tactic(auto, using(terms::proofs::Tests::other_rows, crate::proofs::ContextTableAnswers::rows_known), unfolding(crate::specs::RuleChecks::rule_subjects))]
+
 ghost use Rattle.std.specs.Prelude.{[], ◌∷◌};
 ghost use Rattle.terms.specs.Decides.{Decides};
 ghost use Rattle.terms.specs.Table.{RowsInTable};
 ghost use Rattle.rules.specs.RuleChecks.{rule_subjects, RuleInTables, FollowsPlaced, DecidesInEvery};
 
-use crate::contexts::extends;
 use crate::judgments::LineJudgment;
+use crate::tables::Tables;
 use crate::universes::{is_universe, universes_rise};
 use terms::images::{Subst, is_substituted};
 use terms::nodes::{Node, child, is_node, same_term};
@@ -35,36 +38,23 @@ pub fn l_univ(terms: &[u8], c: LineJudgment) -> bool
 }
 
 // L-PI, its second premise under either domain
-pub fn l_pi(
-    terms: &[u8],
-    contexts: &[u8],
-    c: LineJudgment,
-    p: LineJudgment,
-    q: LineJudgment,
-) -> bool
-    requires { RuleInTables terms.now contexts.now 38 (p ∷ q ∷ []) c }
-    ensures { Decides result (FollowsPlaced terms.now contexts.now 38 (p ∷ q ∷ []) c) }
+pub fn l_pi(tables: Tables, c: LineJudgment, p: LineJudgment, q: LineJudgment) -> bool
+    requires { RuleInTables tables.terms.now tables.contexts.now 38 (p ∷ q ∷ []) c }
+    ensures { Decides result (FollowsPlaced tables.entry.terms.now tables.entry.contexts.now 38 (p ∷ q ∷ []) c) }
 {
-    (extends(terms, contexts, q.context, c.context, p.s2)
-        | extends(terms, contexts, q.context, c.context, p.s1))
-        & is_node(terms, c.s1, Node::Pi(p.s2, q.s1))
-        & is_node(terms, c.s2, Node::Pi(p.s1, q.s2))
+    (tables.extends(q.context, c.context, p.s2) | tables.extends(q.context, c.context, p.s1))
+        & is_node(tables.terms, c.s1, Node::Pi(p.s2, q.s1))
+        & is_node(tables.terms, c.s2, Node::Pi(p.s1, q.s2))
 }
 
 // L-SIG
-pub fn l_sig(
-    terms: &[u8],
-    contexts: &[u8],
-    c: LineJudgment,
-    p: LineJudgment,
-    q: LineJudgment,
-) -> bool
-    requires { RuleInTables terms.now contexts.now 39 (p ∷ q ∷ []) c }
-    ensures { Decides result (FollowsPlaced terms.now contexts.now 39 (p ∷ q ∷ []) c) }
+pub fn l_sig(tables: Tables, c: LineJudgment, p: LineJudgment, q: LineJudgment) -> bool
+    requires { RuleInTables tables.terms.now tables.contexts.now 39 (p ∷ q ∷ []) c }
+    ensures { Decides result (FollowsPlaced tables.entry.terms.now tables.entry.contexts.now 39 (p ∷ q ∷ []) c) }
 {
-    extends(terms, contexts, q.context, c.context, p.s2)
-        & is_node(terms, c.s1, Node::Sigma(p.s1, q.s1))
-        & is_node(terms, c.s2, Node::Sigma(p.s2, q.s2))
+    tables.extends(q.context, c.context, p.s2)
+        & is_node(tables.terms, c.s1, Node::Sigma(p.s1, q.s1))
+        & is_node(tables.terms, c.s2, Node::Sigma(p.s2, q.s2))
 }
 
 // L-PIPROJ1

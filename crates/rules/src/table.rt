@@ -3,7 +3,7 @@
 // and 69 are rules 33 and 34 as edition 3 has them.
 ghost use Rattle.std.specs.Prelude.{◌≡◌, ◌<◌, ◌≤◌};
 ghost use Rattle.terms.specs.Decides.{Decides};
-ghost use Rattle.rules.specs.RuleTable.{IsRule, rule_known, rule_table, table_at, premise_count, rule_row, form_of};
+ghost use Rattle.rules.specs.RuleTable.{IsRule, rule_known, rule_table, table_at, premise_count, demand, rule_row, form_of};
 
 // Rows count from 1.
 const RULE_COUNT: usize = 69;
@@ -149,22 +149,33 @@ const TABLE: [u8; 690] = [
     2, 4, 1, 1, 1, 1, 1, 0, 0, 2,
 ];
 
-// What a rule asks of its premises: how many there are, the forms of four, and how many entries their contexts add; 255
-// where there is no premise.
-#[derive(Clone, Copy)]
-pub struct RuleRow {
-    pub count: usize,
-    pub form0: usize,
-    pub form1: usize,
-    pub form2: usize,
-    pub form3: usize,
-    pub added0: usize,
-    pub added1: usize,
-    pub added2: usize,
-    pub added3: usize,
+// The rule table: every value of the type is that one table. A sheet's is made once (`rule_table`), and lent.
+#[derive(Drop)]
+pub struct RuleTable {
+    cells: [u8; 690],
+    pub ghost is_table: { cells ≡ rule_table },
 }
 
-// Is there such a rule?
+// What a rule asks of a premise: the form, and how many entries its context adds; 255 where there is no premise, as
+// document 01 has the table.
+#[derive(Clone, Copy, Debug, PartialEq, Eq)]
+pub struct Demand {
+    pub form: usize,
+    pub added: usize,
+}
+
+// What a rule asks of its premises: how many there are, and what of each of four.
+#[derive(Clone, Copy, Debug, PartialEq, Eq)]
+pub struct RuleRow {
+    pub count: usize,
+    pub p: Demand,
+    pub q: Demand,
+    pub r: Demand,
+    pub s: Demand,
+}
+
+// Is there such a rule? A rule is its number and no enum: a line holds any word there, and the definition `Instance` of
+// the specs, which every check's contract names, is indexed by the number.
 pub fn is_rule(rule: usize) -> bool
     ensures { result ≡ rule_known rule }
 {
@@ -179,51 +190,58 @@ pub fn cites_motive(rule: usize) -> bool
 }
 
 // The table, for a whole sheet: the compiler makes a constant array anew wherever one is used.
-pub fn rule_table() -> [u8; 690]
-    ensures { result ≡ rule_table }
+pub fn rule_table() -> RuleTable
+    ensures { result.cells ≡ rule_table }
 {
-    TABLE
+    RuleTable { cells: TABLE }
 }
 
-// The number in a rule's row, columns counted from 0.
-fn table_at(table: &[u8; 690], rule: usize, column: usize) -> usize
-    requires table_value { table.now ≡ rule_table }
-    requires rule { IsRule rule × (column < 10) }
-    ensures { result ≡ table_at rule column }
-{
-    table[10 * (rule - 1) + column] as usize
-}
+impl RuleTable {
+    // The number in a rule's row, columns counted from 0.
+    fn at(&self, rule: usize, column: usize) -> usize
+        requires { IsRule rule × (column < 10) }
+        ensures { result ≡ table_at rule column }
+    {
+        self.cells[10 * (rule - 1) + column] as usize
+    }
 
-// What the rule asks of its premises.
-pub fn rule_row(table: &[u8; 690], rule: usize) -> RuleRow
-    requires table_value { table.now ≡ rule_table }
-    requires rule { IsRule rule }
-    ensures { result ≡ rule_row rule }
-{
-    RuleRow {
-        count: table_at(table, rule, 1),
-        form0: table_at(table, rule, 2),
-        form1: table_at(table, rule, 3),
-        form2: table_at(table, rule, 4),
-        form3: table_at(table, rule, 5),
-        added0: table_at(table, rule, 6),
-        added1: table_at(table, rule, 7),
-        added2: table_at(table, rule, 8),
-        added3: table_at(table, rule, 9),
+    // What the rule asks of the premise at place `j`.
+    fn demand(&self, rule: usize, j: usize) -> Demand
+        requires { IsRule rule × (j < 4) }
+        ensures { result ≡ demand rule j }
+    {
+        Demand {
+            form: self.at(rule, 2 + j),
+            added: self.at(rule, 6 + j),
+        }
+    }
+
+    // What the rule asks of its premises.
+    pub fn row(&self, rule: usize) -> RuleRow
+        requires { IsRule rule }
+        ensures { result ≡ rule_row rule }
+    {
+        RuleRow {
+            count: self.premise_count(rule),
+            p: self.demand(rule, 0),
+            q: self.demand(rule, 1),
+            r: self.demand(rule, 2),
+            s: self.demand(rule, 3),
+        }
+    }
+
+    // How many premises the rule has.
+    pub fn premise_count(&self, rule: usize) -> usize
+        requires { IsRule rule }
+        ensures value { result ≡ premise_count rule }
+        ensures range { result ≤ 4 }
+    {
+        self.at(rule, 1)
     }
 }
 
-// How many premises the rule has.
-pub fn premise_count(table: &[u8; 690], rule: usize) -> usize
-    requires table_value { table.now ≡ rule_table }
-    requires rule { IsRule rule }
-    ensures value { result ≡ premise_count rule }
-    ensures range { result ≤ 4 }
-{
-    table_at(table, rule, 1)
-}
-
-// The form of the conclusion, by the ranges of rules; 255 where there is no such rule.
+// The form of the conclusion, by the ranges of rules; 255, as the definition `form_of` of the specs has it, where there
+// is no such rule.
 pub fn conclusion_form(rule: usize) -> usize
     ensures { result ≡ form_of rule }
 {

@@ -8,10 +8,9 @@ use native.Mathlib.Omega.{arith}
 use lib.Dec.{leb, ltb, eqb}
 use lib.ListN.{length, get_or}
 use Rattle.terms.specs.Decides.{Decides}
-use Rattle.terms.specs.Sizes.{check_terms}
-use Rattle.terms.specs.declared.sizes.TermsAnswer.{TermsAnswer}
-use Rattle.terms.specs.declared.sizes.TermsAnswer.TheVariants as term
-use Rattle.terms.proofs.Tests.{never, says_yes, says_no, says_le, says_lt, says_eq, decides_via, ◌&◌}
+use Rattle.terms.specs.Sizes.{TermsAnswer, faultless, check_terms}
+use Rattle.terms.specs.declared.sizes.TermsError.{TermsError}
+use Rattle.terms.proofs.Tests.{never, says_yes, says_no, says_le, says_lt, says_eq, decides_via, ◌&◌, clash}
 use Rattle.terms.proofs.TableLaws as terms_check
 use Rattle.rules.specs.Contexts.{check_contexts}
 use Rattle.rules.specs.Subjects.{last_form, uses_subject, subjects_of, use_of}
@@ -20,13 +19,13 @@ use Rattle.rules.specs.Stated.{last_context, Numbered, used_premises}
 use Rattle.rules.specs.RuleChecks.{LineInTables}
 use Rattle.rules.specs.declared.judgments.LineJudgment.{LineJudgment}
 use Rattle.rules.specs.declared.judgments.SubjectUse.{SubjectUse}
-use Rattle.rules.specs.declared.contexts.ContextsAnswer.{ContextsAnswer}
-use Rattle.rules.specs.declared.contexts.ContextsAnswer.TheVariants as context
+use Rattle.rules.specs.declared.contexts.ContextsError.{ContextsError}
+use Rattle.std.specs.Prelude.{Result, Ok, Err, is_ok}
 use Rattle.rules.proofs.SubjectLaws.{unused_past, by_place, says_context}
 use Rattle.rules.proofs.ContextTableCheckLaws as contexts_check
 use Rattle.rules.proofs.ArmLaws.{numbered_taken}
 use Rattle.rules.proofs.RuleTableEntries.{says_rule}
-use Rattle.rules_demo.specs.Cases.{Tables, Case}
+use Rattle.rules_demo.specs.Cases.{SoundTables, Case}
 
 -- what is asked only of a subject that is used
 if_used : {P : Type 0} (u : Bool) {s : Bool} → Decides s P → Decides (not u || s) (u ≡ true → P)
@@ -79,7 +78,7 @@ module _ (t n : ℕ) where
       ) (says_rule rule & says_eq c.form f & dv & dw & dx & dy & dz))
 
   module _ (terms contexts : List ℕ) where
-    pub case_in_tables : (rule : ℕ) (ps : List LineJudgment) (c : LineJudgment) → Tables terms t contexts n → Case t n rule ps c → LineInTables terms contexts rule ps c
+    pub case_in_tables : (rule : ℕ) (ps : List LineJudgment) (c : LineJudgment) → SoundTables terms t contexts n → Case t n rule ps c → LineInTables terms contexts rule ps c
     unfolding used_premises
     case_in_tables rule ps c tables k =
         record {
@@ -91,26 +90,18 @@ module _ (t n : ℕ) where
         }
 
     -- the ways out of the check of both tables
-    pub many_terms : 3072 < t → Decides false (Tables terms t contexts n)
-    many_terms h = says_no (λ s. omega (arith, s.few_terms))
-
-    pub many_contexts : 256 < n → Decides false (Tables terms t contexts n)
-    many_contexts h = says_no (λ s. omega (arith, s.few))
-
     module _ (long : 10 * t ≤ length terms) (a : TermsAnswer) (e : a ≡ (check_terms terms t).answer) where
-      pub faulty_terms_lem : (number place : ℕ) → a ≡ term.Faulty number place → Decides false (Tables terms t contexts n)
-      faulty_terms_lem number place f = says_no (λ s. let g = (terms_check.check_faultless terms t long).1 s.term_table in let z : ◌≡◌ {A = ℕ} 0 1 = cc in omega arith)
+      pub faulty_terms_lem : (r : TermsError) → a ≡ Err r → Decides false (SoundTables terms t contexts n)
+      faulty_terms_lem r f = says_no (λ s. let g = (terms_check.check_faultless terms t long).1 s.term_table in let z : ◌≡◌ {A = ℕ} 0 1 = cc in omega arith)
 
-      module _ (whole : 4 * n ≤ length contexts) (b : ContextsAnswer) (d : b ≡ check_contexts contexts t n) where
-        pub faulty_contexts_lem : (place : ℕ) → b ≡ context.Faulty place → Decides false (Tables terms t contexts n)
-        faulty_contexts_lem place f = says_no (λ s. let g = (contexts_check.check_faultless contexts t n whole).1 s.table in let z : ◌≡◌ {A = ℕ} 0 1 = cc in omega arith)
-
-        pub faultless_tables : t ≤ 3072 → n ≤ 256 → a ≡ term.NoFault → b ≡ context.NoFault → Decides true (Tables terms t contexts n)
-        faultless_tables few_terms few f g =
+      module _ (few_terms : t ≤ 3072) (few : n ≤ 256) (f : a ≡ faultless) (whole : 4 * n ≤ length contexts) where
+        pub contexts_say : (b : Result (Unit {0}) ContextsError) → b ≡ check_contexts contexts t n → Decides (is_ok b) (SoundTables terms t contexts n)
+        contexts_say (Ok tt) d =
             says_yes
             (record {
               few_terms = few_terms;
               few = few;
               term_table = (terms_check.check_faultless terms t long).0 (sym e ∙ f);
-              table = (contexts_check.check_faultless contexts t n whole).0 (sym d ∙ g);
+              table = (contexts_check.check_faultless contexts t n whole).0 (sym d);
             })
+        contexts_say (Err _) d = says_no (λ s. let h = (contexts_check.check_faultless contexts t n whole).1 s.table in let z : ◌≡◌ {A = ℕ} 0 1 = cc in clash z)

@@ -22,17 +22,17 @@ module _ (value byte : ℕ) where
   comment_behind e = rw (eq-eqb byte 35 e)
 
   pub digit_behind : (digit : ℕ) → digit ≡ byte - 48 → 48 ≤ byte → byte < 58
-      → Number ((10 * (value % 65536) + digit) % 65536) ≡ place_behind value byte
+      → Number ((value * 10 % 65536 + digit) % 65536) ≡ place_behind value byte
   unfolding place_behind is_digit
   digit_behind digit e low high =
       rw (ne_eqb byte 35 (λ q. omega arith), le-leb 48 byte low, le-leb byte 57 (omega arith)) (ap Number (sym same))
     where
-      parts : 10 * value + (byte - 48) ≡ 10 * (value % 65536) + digit + 65536 * (10 * (value / 65536))
+      parts : 10 * value + (byte - 48) ≡ value * 10 % 65536 + digit + 65536 * (value * 10 / 65536)
       parts = omega arith
 
-      same : (10 * value + (byte - 48)) % 65536 ≡ (10 * (value % 65536) + digit) % 65536
+      same : (10 * value + (byte - 48)) % 65536 ≡ (value * 10 % 65536 + digit) % 65536
       same = ap (λ n. n % 65536) parts
-          ∙ add-mul-mod_self_left (10 * (value % 65536) + digit) 65536 (10 * (value / 65536))
+          ∙ add-mul-mod_self_left (value * 10 % 65536 + digit) 65536 (value * 10 / 65536)
 
   pub below_digits : (byte ≡ 35 → ⊥) → byte < 48 → Blank ≡ place_behind value byte
   unfolding place_behind is_digit

@@ -25,7 +25,7 @@ unfoldable pub case_judgment : List ℕ → ℕ → ℕ → LineJudgment
 case_judgment cases number j = judgment_from cases (26 * number + 5 * j + 1)
 
 -- well-formed tables of so many terms and contexts, no larger than a sheet's
-pub record Tables (terms : List ℕ) (term_count : ℕ) (contexts : List ℕ) (count : ℕ) : Type 0 where
+pub record SoundTables (terms : List ℕ) (term_count : ℕ) (contexts : List ℕ) (count : ℕ) : Type 0 where
   pub few_terms : term_count ≤ 3072
   pub few : count ≤ 256
   pub term_table : TermTable terms term_count

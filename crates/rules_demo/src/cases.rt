@@ -1,14 +1,15 @@
 // Cases, 26 words each: the rule, the conclusion and four premises, zeros for those that there are not.
-ghost use Rattle.std.specs.Prelude.{◌≡◌, [], ◌∷◌, ◌+◌, ◌*◌, ◌<◌, ◌≤◌, length};
+ghost use Rattle.std.specs.Prelude.{◌≡◌, ◌+◌, ◌*◌, ◌<◌, ◌≤◌, length};
 ghost use Rattle.terms.specs.Decides.{Decides};
-ghost use Rattle.rules.specs.RuleTable.{rule_table};
 ghost use Rattle.rules.specs.Stated.{Numbered, Follows};
-ghost use Rattle.rules.specs.RuleChecks.{LineInTables};
-ghost use Rattle.rules_demo.specs.Cases.{case_judgment, Tables, Case, Answered};
+ghost use Rattle.rules.specs.RuleChecks.{in_order, LineInTables};
+ghost use Rattle.rules_demo.specs.Cases.{case_judgment, Case, Answered};
 
+use crate::tables::CheckedTables;
 use rules::instances::{is_cited_instance, is_instance};
-use rules::judgments::{LineJudgment, last_context, subject_use};
-use rules::table::{cites_motive, conclusion_form, is_rule};
+use rules::judgments::{LineJudgment, Premises, last_context, subject_use};
+use rules::table::{RuleTable, cites_motive, conclusion_form, is_rule};
+use rules::tables::Tables;
 use std::io;
 use terms::words::word_at;
 
@@ -37,7 +38,8 @@ fn judgment_at(cases: &[u8], number: usize, j: usize) -> LineJudgment
     }
 }
 
-// Are the numbers that the judgment's form uses in range, and does it stand in a context where its form may?
+// Are the numbers that the judgment's form uses in range, and does it stand in a context where its form may? The two
+// counts alone, as the definitions `Numbered` and `Case` have them: no table is read.
 fn is_numbered(t: usize, n: usize, j: LineJudgment) -> bool
     ensures { Decides result (Numbered t n j) }
 {
@@ -50,69 +52,41 @@ fn is_numbered(t: usize, n: usize, j: LineJudgment) -> bool
 }
 
 // Do these numbers make a case: a rule, its form, and numbers in range?
-fn is_case(
-    t: usize,
-    n: usize,
-    rule: usize,
-    c: LineJudgment,
-    p: LineJudgment,
-    q: LineJudgment,
-    r: LineJudgment,
-    s: LineJudgment,
-) -> bool
-    ensures { Decides result (Case t n rule (p ∷ q ∷ r ∷ s ∷ []) c) }
+fn is_case(t: usize, n: usize, rule: usize, c: LineJudgment, ps: &Premises) -> bool
+    ensures { Decides result (Case t n rule (in_order ps.now) c) }
 {
     is_rule(rule)
         & (c.form == conclusion_form(rule))
         & is_numbered(t, n, c)
-        & is_numbered(t, n, p)
-        & is_numbered(t, n, q)
-        & is_numbered(t, n, r)
-        & is_numbered(t, n, s)
+        & is_numbered(t, n, ps.p)
+        & is_numbered(t, n, ps.q)
+        & is_numbered(t, n, ps.r)
+        & is_numbered(t, n, ps.s)
 }
 
 // Does the judgment `c` follow by the rule, rows 68 and 69 among them, from the premises that the rule uses?
-fn follows(
-    table: &[u8; 690],
-    terms: &[u8],
-    contexts: &[u8],
-    rule: usize,
-    c: LineJudgment,
-    p: LineJudgment,
-    q: LineJudgment,
-    r: LineJudgment,
-    s: LineJudgment,
-) -> bool
-    requires table_value { table.now ≡ rule_table }
-    requires line_in_tables { LineInTables terms.now contexts.now rule (p ∷ q ∷ r ∷ s ∷ []) c }
-    ensures { Decides result (Follows terms.now contexts.now rule (p ∷ q ∷ r ∷ s ∷ []) c) }
+fn follows(table: &RuleTable, tables: Tables, rule: usize, c: LineJudgment, ps: &Premises) -> bool
+    requires { LineInTables tables.terms.now tables.contexts.now rule (in_order ps.now) c }
+    ensures { Decides result (Follows tables.entry.terms.now tables.entry.contexts.now rule (in_order ps.now) c) }
 {
     if cites_motive(rule) {
-        is_cited_instance(table, terms, contexts, rule, c, p, q, r, s)
+        is_cited_instance(table, tables, rule, c, ps)
     } else {
-        is_instance(table, terms, contexts, rule, c, p, q, r, s)
+        is_instance(table, tables, rule, c, ps)
     }
 }
 
 fn answer_to(
-    table: &[u8; 690],
-    terms: &[u8],
-    t: usize,
-    contexts: &[u8],
-    n: usize,
+    table: &RuleTable,
+    checked: CheckedTables,
     rule: usize,
     c: LineJudgment,
-    p: LineJudgment,
-    q: LineJudgment,
-    r: LineJudgment,
-    s: LineJudgment,
+    ps: &Premises,
 ) -> Answer
-    requires table_value { table.now ≡ rule_table }
-    requires tables { Tables terms.now t contexts.now n }
-    ensures { Answered result (Case t n rule (p ∷ q ∷ r ∷ s ∷ []) c) (Follows terms.now contexts.now rule (p ∷ q ∷ r ∷ s ∷ []) c) }
+    ensures { Answered result (Case checked.entry.t checked.entry.n rule (in_order ps.now) c) (Follows checked.entry.tables.terms.now checked.entry.tables.contexts.now rule (in_order ps.now) c) }
 {
-    if is_case(t, n, rule, c, p, q, r, s) {
-        if follows(table, terms, contexts, rule, c, p, q, r, s) {
+    if is_case(checked.t, checked.n, rule, c, ps) {
+        if follows(table, checked.tables, rule, c, ps) {
             return Answer::Instance;
         }
         return Answer::Refused;
@@ -132,49 +106,36 @@ fn write_line(rt: &impl Print, rule: usize, number: usize, answer: Answer) -> io
 // Runs case `number`.
 fn run(
     rt: &impl Print,
-    table: &[u8; 690],
-    terms: &[u8],
-    t: usize,
-    contexts: &[u8],
-    n: usize,
+    table: &RuleTable,
+    checked: CheckedTables,
     cases: &[u8],
     number: usize,
 ) -> io::Result<()>
-    requires table_value { table.now ≡ rule_table }
-    requires tables { Tables terms.now t contexts.now n × (52 * number + 52 ≤ length cases.now) }
+    requires { 52 * number + 52 ≤ length cases.now }
 {
     let rule = word_at(cases, 26 * number);
     let c = judgment_at(cases, number, 0);
-    let p = judgment_at(cases, number, 1);
-    let q = judgment_at(cases, number, 2);
-    let r = judgment_at(cases, number, 3);
-    let s = judgment_at(cases, number, 4);
-    write_line(
-        rt,
-        rule,
-        number,
-        answer_to(table, terms, t, contexts, n, rule, c, p, q, r, s),
-    )
+    let ps = Premises {
+        p: judgment_at(cases, number, 1),
+        q: judgment_at(cases, number, 2),
+        r: judgment_at(cases, number, 3),
+        s: judgment_at(cases, number, 4),
+    };
+    write_line(rt, rule, number, answer_to(table, checked, rule, c, &ps))
 }
 
 // Runs so many cases.
 pub fn run_all(
     rt: &impl Print,
-    table: &[u8; 690],
-    terms: &[u8],
-    t: usize,
-    contexts: &[u8],
-    n: usize,
+    table: &RuleTable,
+    checked: CheckedTables,
     cases: &[u8],
     many: usize,
 ) -> io::Result<()>
-    requires table_value { table.now ≡ rule_table }
-    requires tables { Tables terms.now t contexts.now n × (52 * many ≤ length cases.now) }
+    requires { 52 * many ≤ length cases.now }
 {
-    let mut number = 0;
-    while number < many {
-        run(rt, table, terms, t, contexts, n, cases, number)?;
-        number += 1;
+    for number in 0..many {
+        run(rt, table, checked, cases, number)?;
     }
     Ok(())
 }

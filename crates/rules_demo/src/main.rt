@@ -7,23 +7,20 @@ mod cases;
 mod numbers;
 mod tables;
 
-ghost use Rattle.std.specs.Prelude.{◌≡◌};
-ghost use Rattle.rules.specs.RuleTable.{rule_table};
-
-use rules::table::rule_table;
+use crate::tables::CheckedTables;
+use rules::table::{RuleTable, rule_table};
+use rules::tables::Tables;
 use std::io;
 use std::rt::Files;
 
 // Runs the cases of a file, over tables of terms and of contexts that two others hold.
 fn run_file(
     rt: &(impl Files + Print + Eprint),
-    table: &[u8; 690],
+    table: &RuleTable,
     terms_path: &[u8],
     contexts_path: &[u8],
     cases_path: &[u8],
-) -> io::Result<()>
-    requires { table.now ≡ rule_table }
-{
+) -> io::Result<()> {
     rt.write_all(cases_path)?;
     rt.write_all(b"\n")?;
     let mut terms = [0u8; 65536];
@@ -33,7 +30,11 @@ fn run_file(
     let n = numbers::load(rt, contexts_path, &mut contexts) / 2;
     let many = numbers::load(rt, cases_path, &mut cases) / 26;
     if tables::are_sound(&terms, t, &contexts, n) {
-        cases::run_all(rt, table, &terms, t, &contexts, n, &cases, many)
+        let tables = Tables {
+            terms: &terms,
+            contexts: &contexts,
+        };
+        cases::run_all(rt, table, CheckedTables { tables, t, n }, &cases, many)
     } else {
         rt.write_all(b"the tables are not sound\n")
     }

@@ -4,7 +4,7 @@ ghost use Rattle.rules_demo.specs.Numbers.{place_behind, next_place, ended, numb
 ghost use Rattle.rules_demo.specs.WordBuffer.{WordsPut};
 
 use answers::failures::fail;
-use answers::input::{open_input, read_whole};
+use answers::input::{CutShort, open_input, read_whole};
 use std::rt::Files;
 
 // Where a text's reader stands.
@@ -12,23 +12,16 @@ use std::rt::Files;
 pub enum Place {
     Blank,
     Comment,
-    Number(usize),
-}
-
-fn wide(byte: u8) -> usize
-    ensures value { result ≡ byte }
-    ensures range { result < 256 }
-{
-    byte as usize
+    Number(u16),
 }
 
 // The place behind a byte that is in no comment, where `value` is what the digits before it spell.
-fn behind(value: usize, byte: u8) -> Place
+fn behind(value: u16, byte: u8) -> Place
     ensures { result ≡ place_behind value byte }
 {
     match byte {
         35 => Place::Comment,
-        48..=57 => Place::Number((10 * (value % 65536) + wide(byte - 48)) % 65536),
+        48..=57 => Place::Number(value.wrapping_mul(10).wrapping_add(u16::from(byte - 48))),
         _ => Place::Blank,
     }
 }
@@ -50,7 +43,7 @@ fn next_place(place: Place, byte: u8) -> Place
 }
 
 // Puts a word behind the first `count`, if there is room, and answers how many there are then.
-fn put(out: &mut [u8], count: usize, value: usize) -> usize
+fn put(out: &mut [u8], count: usize, value: u16) -> usize
     requires { 2 * count ≤ length out.old }
     ensures { WordsPut out.old count (value ∷ []) out.new result }
 {
@@ -58,8 +51,9 @@ fn put(out: &mut [u8], count: usize, value: usize) -> usize
     if out.len() - at < 2 {
         return count;
     }
-    out[at] = (value % 256) as u8;
-    out[at + 1] = (value / 256 % 256) as u8;
+    let [low, high] = value.to_le_bytes();
+    out[at] = low;
+    out[at + 1] = high;
     count + 1
 }
 
@@ -83,12 +77,10 @@ fn put_all(text: &[u8], out: &mut [u8]) -> usize
 {
     let mut count = 0;
     let mut place = Place::Blank;
-    let mut i = 0;
-    while i < text.len() {
+    for i in 0..text.len() {
         let next = next_place(place, text[i]);
         count = put_ended(out, count, place, next);
         place = next;
-        i += 1;
     }
     count
 }
@@ -105,6 +97,7 @@ pub fn load(rt: &(impl Files + Eprint), path: &[u8], out: &mut [u8]) -> usize
             return 0;
         }
     };
-    let n = read_whole(rt, &mut file, &mut text, path).length;
-    put_all(&text[..n], out)
+    match read_whole(rt, &mut file, &mut text, path) {
+        Ok(length) | Err(CutShort { length }) => put_all(&text[..length], out),
+    }
 }

@@ -1,7 +1,5 @@
 -- The words of a line, the length that one of them names, and the numbers that some of them spell; the lines of a text.
-use Rattle.std.specs.Prelude.{◌≡◌, cond, List, ℕ, zero, suc, ◌+◌, ◌<◌, ltb, length, get_or}
-use Rattle.answers.specs.declared.numbers.Reading.{Reading}
-use Rattle.answers.specs.declared.numbers.Reading.TheVariants.{Number, Unreadable}
+use Rattle.std.specs.Prelude.{◌≡◌, Option, Some, None, List, ℕ, zero, suc, ◌+◌, ◌<◌, min, length, get_or}
 use Rattle.answers.specs.Numbers.{read_number}
 use Rattle.answers.specs.Parts.{up_to, past}
 
@@ -16,12 +14,12 @@ behind_lines zero text = text
 behind_lines (suc count) text = behind_lines count (past 10 text)
 
 -- a length that is named, at most that of the longest sheet, which it is where no number is read
-unfoldable pub length_of : Reading → ℕ
-length_of (Number n) = cond (ltb 52240 n) 52240 n
-length_of Unreadable = 52240
+unfoldable pub length_of : Option ℕ → ℕ
+length_of (Some n) = min n 52240
+length_of None = 52240
 
 -- the first `count` numbers of a buffer are those that the words from word `first` on spell, as many as one word after
 -- the other spells a number, or as the buffer holds
 pub record NumbersFrom (line : List ℕ) (first : ℕ) (numbers : List ℕ) (count : ℕ) : Type 0 where
-  pub spelled : (i : ℕ) → i < count → read_number (word_of (first + i) line) ≡ Number (get_or numbers i 0)
-  pub end : count < length numbers → read_number (word_of (first + count) line) ≡ Unreadable
+  pub spelled : (i : ℕ) → i < count → read_number (word_of (first + i) line) ≡ Some (get_or numbers i 0)
+  pub end : count < length numbers → read_number (word_of (first + count) line) ≡ None

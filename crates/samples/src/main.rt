@@ -15,45 +15,38 @@ mod text;
 ghost use Rattle.std.specs.Prelude.{◌≤◌, length, IfOk};
 ghost use Rattle.answers.specs.Counts.{IsPrefixLen};
 
-use crate::text::{behind_lines, length_in, number_in, numbers_from, same};
-use answers::input::{Input, open_input, read_sheet, read_whole};
-use answers::listing::{Listing, read_list};
-use answers::numbers::{Reading, Request, field_of, request_of};
+use crate::text::{behind_lines, length_in, number_in, numbers_from};
+use answers::Line;
+use answers::input::{CutShort, open_input, read_sheet, read_whole};
+use answers::listing::read_list;
+use answers::numbers::{field_of, request_of};
 use answers::parts::{behind, place_of};
 use answers::replies::{
-    admission_reply, conversion_reply, day_reply, normality_reply, search_reply, window_reply,
-    withdrawal_reply,
+    Reply, admission_reply, conversion_reply, day_reply, normality_reply, search_reply,
+    window_reply, withdrawal_reply,
 };
-use sheets::batch::{Batch, find_all_flat};
-use sheets::conversion::Conversion;
-use sheets::withdrawal::Withdrawal;
+use sheets::batch::find_all_flat;
+use sheets::refusals::Refusal;
 use std::fs::File;
 use std::io;
+use std::io::Read;
 use std::rt::Files;
 
 // What is said where a bundle cannot be read.
 const BUNDLE: &[u8] = b"reading a bundle";
 
-// What is done with the sheets or the dates of a list.
-#[derive(Clone, Copy)]
-enum Task<'a> {
-    Admit,
-    Find,
-    Withdraw,
-    Window,
-    Day,
-    Normal,
-    Bundled(&'a File),
-    WithdrawSet(&'a File),
-    Convert { sheets: &'a File, results: &'a File },
-    Batch,
+// Fills a buffer from a file as far as the file can be read, and answers how many bytes were.
+fn read_part<R: Read>(rt: &impl Eprint, file: &mut R, buffer: &mut [u8], what: &[u8]) -> usize
+    ensures { IsPrefixLen result buffer.new }
+{
+    match read_whole(rt, file, buffer, what) {
+        Ok(length) | Err(CutShort { length }) => length,
+    }
 }
 
 // Admits a sheet.
 fn admit_whole(rt: &impl Print, sheet: &[u8]) -> io::Result<()> {
-    let mut text = [0u8; 80];
-    let count = admission_reply(sheet, &mut text);
-    rt.write_all(&text[..count])
+    rt.write_all(admission_reply(sheet).as_bytes())
 }
 
 // Searches a sheet for the five numbers of a line of the list.
@@ -65,12 +58,8 @@ fn find_numbers(rt: &impl Print, sheet: &[u8], line: &[u8]) -> io::Result<()> {
         field_of(number_in(line, 4)),
         field_of(number_in(line, 5)),
     ) {
-        Request::Judgment(wanted) => {
-            let mut text = [0u8; 80];
-            let count = search_reply(sheet, wanted, &mut text);
-            rt.write_all(&text[..count])
-        }
-        Request::Unreadable => rt.write_all(b"unreadable\n"),
+        Some(wanted) => rt.write_all(search_reply(sheet, wanted).as_bytes()),
+        None => rt.write_all(b"unreadable\n"),
     }
 }
 
@@ -88,10 +77,10 @@ fn write_words(rt: &impl Print, words: &[u16]) -> io::Result<()> {
 }
 
 // Writes the answer of a batch.
-fn write_batch(rt: &impl Print, answer: Batch) -> io::Result<()> {
+fn write_batch(rt: &impl Print, answer: Result<usize, Refusal>) -> io::Result<()> {
     match answer {
-        Batch::Answered(count) => print!(rt; "ok {count}"),
-        Batch::Refused { number, place } => print!(rt; "refused {number} {place}"),
+        Ok(count) => print!(rt; "ok {count}"),
+        Err(Refusal { fault, place }) => print!(rt; "refused {} {place}", fault.number()),
     }
 }
 
@@ -107,37 +96,32 @@ fn find_judgments(
     write_words(rt, answers)
 }
 
-// Withdraws a set of lines of a sheet, and admits the sheet that is left. Answers its length, and 0 if there is none.
-fn withdraw_lines(rt: &impl Print, sheet: &[u8], set: &[usize], out: &mut [u8]) -> io::Result<usize>
-    ensures { IfOk result (λ length. IsPrefixLen length out.new) }
+// Writes what a withdrawal or a conversion answers, and admits the new sheet if there is one.
+fn write_reply(rt: &impl Print, reply: Reply, out: &[u8]) -> io::Result<()>
+    requires { IfOk reply.answer (λ written. written ≤ length out.now) }
 {
-    let mut text = [0u8; 80];
-    let reply = withdrawal_reply(sheet, set, out, &mut text);
-    let count = reply.count;
-    rt.write_all(&text[..count])?;
     let answer = reply.answer;
-    if let Withdrawal::Written { length } = answer {
+    rt.write_all(reply.line.as_bytes())?;
+    if let Ok(length) = answer {
         admit_whole(rt, &out[..length])?;
-        return Ok(length);
     }
-    Ok(0)
+    Ok(())
 }
 
-// The same, for the line number and the output's length of a line of the list.
+// Withdraws the line whose number a line of the list has, with the output's length behind it.
 fn withdraw_number(rt: &impl Print, sheet: &[u8], line: &[u8]) -> io::Result<()> {
-    let Reading::Number(number) = number_in(line, 1) else {
+    let Some(number) = number_in(line, 1) else {
         return rt.write_all(b"unreadable\n");
     };
     let room = length_in(line, 2);
-    let set = [number];
     let mut out = [0u8; 52240];
-    withdraw_lines(rt, sheet, &set, &mut out[..room])?;
-    Ok(())
+    let reply = withdrawal_reply(sheet, &[number], &mut out[..room]);
+    write_reply(rt, reply, &out[..room])
 }
 
 // Says whether these are the bytes expected.
 fn compare(rt: &impl Print, got: &[u8], expected: &[u8]) -> io::Result<()> {
-    if same(got, expected) {
+    if got == expected {
         rt.write_all(b"as expected\n")
     } else {
         rt.write_all(b"not as expected\n")
@@ -151,11 +135,11 @@ fn compare_next(
     sheet: &[u8],
     expected: &mut [u8],
 ) -> io::Result<()> {
-    let length = read_whole(rt, &mut bundle, expected, BUNDLE).length;
+    let length = read_part(rt, &mut bundle, expected, BUNDLE);
     compare(rt, sheet, &expected[..length])
 }
 
-// Withdraws a set of lines of a sheet likewise, and compares the sheet that is left.
+// Withdraws a set of lines of a sheet, and compares the sheet that is left.
 fn withdraw_compared(
     rt: &(impl Print + Eprint),
     sheet: &[u8],
@@ -165,8 +149,10 @@ fn withdraw_compared(
 ) -> io::Result<()>
     requires { length out.old ≤ 52240 }
 {
-    let length = withdraw_lines(rt, sheet, set, out)?;
-    if 0 < length {
+    let reply = withdrawal_reply(sheet, set, out);
+    let answer = reply.answer;
+    write_reply(rt, reply, out)?;
+    if let Ok(length) = answer {
         let mut expected = [0u8; 52240];
         compare_next(rt, results, &out[..length], &mut expected[..length])?;
     }
@@ -187,22 +173,6 @@ fn withdraw_numbers(
     withdraw_compared(rt, sheet, &set[..count], &mut out[..room], results)
 }
 
-// Converts a sheet, and admits the new one. Answers its length, and 0 if there is none.
-fn convert_sheet(rt: &impl Print, sheet: &[u8], out: &mut [u8]) -> io::Result<usize>
-    ensures { IfOk result (λ length. IsPrefixLen length out.new) }
-{
-    let mut text = [0u8; 80];
-    let reply = conversion_reply(sheet, out, &mut text);
-    let count = reply.count;
-    rt.write_all(&text[..count])?;
-    let answer = reply.answer;
-    if let Conversion::Written { length } = answer {
-        admit_whole(rt, &out[..length])?;
-        return Ok(length);
-    }
-    Ok(0)
-}
-
 // Converts a sheet, and compares every byte of the output: with the new sheet as far as one is written, and behind it
 // with what was there before.
 fn convert_compared(
@@ -214,11 +184,14 @@ fn convert_compared(
 ) -> io::Result<()>
     requires { length out.old ≤ length before.now }
 {
-    let length = convert_sheet(rt, sheet, out)?;
-    if 0 < length {
+    let reply = conversion_reply(sheet, out);
+    let answer = reply.answer;
+    write_reply(rt, reply, out)?;
+    if let Ok(length) = answer {
         compare(rt, &out[..length], new)?;
     }
-    compare(rt, &out[length..], &before[length..])
+    let written = answer.unwrap_or(0);
+    compare(rt, &out[written..], &before[written..])
 }
 
 // The same, for an output of so many bytes. Bytes that are not written show.
@@ -250,8 +223,8 @@ fn convert_next(
     new: &mut [u8],
     rooms: &[usize],
 ) -> io::Result<()> {
-    let length = read_whole(rt, &mut bundle, sheet, BUNDLE).length;
-    let new_length = read_whole(rt, &mut results, new, BUNDLE).length;
+    let length = read_part(rt, &mut bundle, sheet, BUNDLE);
+    let new_length = read_part(rt, &mut results, new, BUNDLE);
     admit_whole(rt, &sheet[..length])?;
     convert_each(rt, &sheet[..length], &new[..new_length], rooms)
 }
@@ -281,12 +254,18 @@ fn convert_bundled(
 
 // Says whether the term whose number a line of the list has is normal.
 fn mark_number(rt: &impl Print, sheet: &[u8], line: &[u8]) -> io::Result<()> {
-    let Reading::Number(term) = number_in(line, 1) else {
-        return rt.write_all(b"unreadable\n");
-    };
-    let mut text = [0u8; 80];
-    let count = normality_reply(sheet, term, &mut text);
-    rt.write_all(&text[..count])
+    match number_in(line, 1) {
+        Some(term) => rt.write_all(normality_reply(sheet, term).as_bytes()),
+        None => rt.write_all(b"unreadable\n"),
+    }
+}
+
+// Writes the line that is answered, if one is.
+fn write_line(rt: &impl Print, reply: Option<Line>) -> io::Result<()> {
+    match reply {
+        Some(line) => rt.write_all(line.as_bytes()),
+        None => rt.write_all(b"unreadable\n"),
+    }
 }
 
 // Asks a window with the three dates of a line of the list.
@@ -295,34 +274,18 @@ fn ask_window(rt: &impl Print, line: &[u8]) -> io::Result<()> {
     let last = behind(line, first_end);
     let last_end = place_of(line, last, b' ');
     let day = behind(line, last_end);
-    let mut text = [0u8; 80];
-    let count = window_reply(
-        &line[..first_end],
-        &line[last..last_end],
-        &line[day..],
-        &mut text,
-    );
-    rt.write_all(&text[..count])?;
-    if count == 0 {
-        rt.write_all(b"unreadable\n")?;
-    }
-    Ok(())
+    let reply = window_reply(&line[..first_end], &line[last..last_end], &line[day..]);
+    write_line(rt, reply)
 }
 
 // Numbers the day of a line of the list.
 fn number_day(rt: &impl Print, line: &[u8]) -> io::Result<()> {
-    let mut text = [0u8; 80];
-    let count = day_reply(line, &mut text);
-    rt.write_all(&text[..count])?;
-    if count == 0 {
-        rt.write_all(b"unreadable\n")?;
-    }
-    Ok(())
+    write_line(rt, day_reply(line))
 }
 
 // Admits the sheet that comes next in a bundle, which fills the buffer.
 fn admit_next(rt: &(impl Print + Eprint), mut bundle: &File, sheet: &mut [u8]) -> io::Result<()> {
-    let length = read_whole(rt, &mut bundle, sheet, BUNDLE).length;
+    let length = read_part(rt, &mut bundle, sheet, BUNDLE);
     admit_whole(rt, &sheet[..length])
 }
 
@@ -333,61 +296,39 @@ fn admit_bundled(rt: &(impl Print + Eprint), bundle: &File, line: &[u8]) -> io::
     admit_next(rt, bundle, &mut sheet[..length])
 }
 
-// Reads the sheet that a line of a list names; nothing where it cannot be opened.
-fn read_named(
+// Hands on the sheet that a line of a list names, if it can be opened and read whole.
+fn run_sheet<F: FnOnce(&[u8]) -> io::Result<()>>(
     rt: &(impl Files + Print + Eprint),
     line: &[u8],
-    sheet: &mut [u8; 52241],
-) -> io::Result<Input>
-    ensures { IfOk result (λ input. IsPrefixLen input.length sheet.new) }
+    run: F,
+) -> io::Result<()>
+    requires { F.IsAlwaysCallable run }
 {
     let end = place_of(line, 0, b' ');
     let Ok(mut file) = open_input(rt, &line[..end]) else {
-        rt.write_all(b"not opened\n")?;
-        return Ok(Input {
-            length: 0,
-            whole: false,
-        });
+        return rt.write_all(b"not opened\n");
     };
-    Ok(read_sheet(rt, &mut file, sheet))
-}
-
-// Runs one line of a list of sheets.
-fn run_sheet(rt: &(impl Files + Print + Eprint), line: &[u8], task: Task<'_>) -> io::Result<()> {
     let mut sheet = [0u8; 52241];
-    let input = read_named(rt, line, &mut sheet)?;
-    let length = input.length;
-    if !input.whole {
-        return Ok(());
-    }
-    match task {
-        Task::Find => find_numbers(rt, &sheet[..length], line),
-        Task::Withdraw => withdraw_number(rt, &sheet[..length], line),
-        Task::Normal => mark_number(rt, &sheet[..length], line),
-        Task::WithdrawSet(results) => withdraw_numbers(rt, &sheet[..length], line, results),
-        _ => admit_whole(rt, &sheet[..length]),
+    match read_sheet(rt, &mut file, &mut sheet) {
+        Ok(length) => run(&sheet[..length]),
+        Err(_) => Ok(()),
     }
 }
 
-// Runs one line of a list.
-fn run_line(rt: &(impl Files + Print + Eprint), line: &[u8], task: Task<'_>) -> io::Result<()> {
-    rt.write_all(line)?;
-    rt.write_all(b" ")?;
-    match task {
-        Task::Window => ask_window(rt, line),
-        Task::Day => number_day(rt, line),
-        Task::Bundled(bundle) => admit_bundled(rt, bundle, line),
-        Task::Convert { sheets, results } => convert_bundled(rt, sheets, results, line),
-        _ => run_sheet(rt, line, task),
-    }
-}
-
-// Runs every line of a list.
-fn run_lines(rt: &(impl Files + Print + Eprint), list: &[u8], task: Task<'_>) -> io::Result<()> {
+// Writes every line of a list, and hands it on. Lines end where they say, so that no index is counted: a `while`.
+fn run_lines<F: FnMut(&[u8]) -> io::Result<()>>(
+    rt: &impl Print,
+    list: &[u8],
+    mut run: F,
+) -> io::Result<()>
+    requires { F.IsAlwaysCallable run }
+{
     let mut start = 0;
     while start < list.len() {
         let end = place_of(list, start, b'\n');
-        run_line(rt, &list[start..end], task)?;
+        rt.write_all(&list[start..end])?;
+        rt.write_all(b" ")?;
+        run(&list[start..end])?;
         start = behind(list, end);
     }
     Ok(())
@@ -401,13 +342,11 @@ fn find_in_named(
 ) -> io::Result<()> {
     let room = length_in(line, 1);
     let mut answers = [50505u16; 52240];
-    let mut sheet = [0u8; 52241];
-    let input = read_named(rt, line, &mut sheet)?;
-    let length = input.length;
-    if input.whole {
-        find_judgments(rt, &sheet[..length], numbers, &mut answers[..room])?;
-    }
-    Ok(())
+    run_sheet(
+        rt,
+        line,
+        |sheet| find_judgments(rt, sheet, numbers, &mut answers[..room]),
+    )
 }
 
 // Runs one batch: its first line, and its judgments.
@@ -416,15 +355,12 @@ fn run_batch(rt: &(impl Files + Print + Eprint), line: &[u8], judgments: &[u8]) 
     rt.write_all(b" ")?;
     let mut numbers = [0u32; 5120];
     match read_list(judgments, &mut numbers) {
-        Listing::Judgments(count) => {
-            let words = 5 * count;
-            find_in_named(rt, line, &numbers[..words])
-        }
-        _ => rt.write_all(b"unreadable\n"),
+        Ok(count) => find_in_named(rt, line, &numbers[..5 * count]),
+        Err(_) => rt.write_all(b"unreadable\n"),
     }
 }
 
-// Runs every batch of a list.
+// Runs every batch of a list; the next one begins behind as many lines as this one says.
 fn run_batches(rt: &(impl Files + Print + Eprint), list: &[u8]) -> io::Result<()> {
     let mut start = 0;
     while start < list.len() {
@@ -447,19 +383,48 @@ fn open_named<R: Files + Print>(rt: &R, path: &[u8]) -> io::Result<Option<R::Fil
     Ok(Some(file))
 }
 
-// Runs the list that a file holds.
-fn run_list(rt: &(impl Files + Print + Eprint), path: &[u8], task: Task<'_>) -> io::Result<()> {
+// Hands on the list that a file holds.
+fn with_list<F: FnOnce(&[u8]) -> io::Result<()>>(
+    rt: &(impl Files + Print + Eprint),
+    path: &[u8],
+    run: F,
+) -> io::Result<()>
+    requires { F.IsAlwaysCallable run }
+{
     let Some(mut file) = open_named(rt, path)? else {
         return Ok(());
     };
     // longer than any of the lists: one that was cut would lack answers
     let mut list = [0u8; 131072];
-    let length = read_whole(rt, &mut file, &mut list, path).length;
+    let length = read_part(rt, &mut file, &mut list, path);
     drop(file);
-    match task {
-        Task::Batch => run_batches(rt, &list[..length]),
-        _ => run_lines(rt, &list[..length], task),
-    }
+    run(&list[..length])
+}
+
+// Runs the list that a file holds, line by line.
+fn run_list<F: FnMut(&[u8]) -> io::Result<()>>(
+    rt: &(impl Files + Print + Eprint),
+    path: &[u8],
+    run: F,
+) -> io::Result<()>
+    requires { F.IsAlwaysCallable run }
+{
+    with_list(rt, path, |list| run_lines(rt, list, run))
+}
+
+// Runs a list of sheets, each of which a line names.
+fn run_sheets<F: Fn(&[u8], &[u8]) -> io::Result<()>>(
+    rt: &(impl Files + Print + Eprint),
+    path: &[u8],
+    run: F,
+) -> io::Result<()>
+    requires { F.IsAlwaysCallable run }
+{
+    run_list(
+        rt,
+        path,
+        |line| run_sheet(rt, line, |sheet| run(sheet, line)),
+    )
 }
 
 // Runs the list of a bundle.
@@ -469,7 +434,17 @@ fn run_bundle(
     list: &[u8],
 ) -> io::Result<()> {
     if let Some(sheets) = open_named(rt, bundle)? {
-        run_list(rt, list, Task::Bundled(&sheets))?;
+        run_list(rt, list, |line| admit_bundled(rt, &sheets, line))?;
+    }
+    Ok(())
+}
+
+// Runs the list of sets to withdraw.
+fn run_sets(rt: &(impl Files<File = File> + Print + Eprint)) -> io::Result<()> {
+    if let Some(results) = open_named(rt, b"withdraw_set.results")? {
+        run_sheets(rt, b"withdraw_set.list", |sheet, line| {
+            withdraw_numbers(rt, sheet, line, &results)
+        })?;
     }
     Ok(())
 }
@@ -479,28 +454,39 @@ fn run_conversions(rt: &(impl Files<File = File> + Print + Eprint)) -> io::Resul
     let sheets = open_named(rt, b"conversion.sheets")?;
     let results = open_named(rt, b"conversion.results")?;
     if let (Some(sheets), Some(results)) = (sheets, results) {
-        let task = Task::Convert {
-            sheets: &sheets,
-            results: &results,
-        };
-        run_list(rt, b"conversion.list", task)?;
+        run_list(
+            rt,
+            b"conversion.list",
+            |line| convert_bundled(rt, &sheets, &results, line),
+        )?;
     }
     Ok(())
 }
 
 fn main(rt: HostRuntime) -> io::Result<()> {
-    run_list(&rt, b"admit.list", Task::Admit)?;
-    run_list(&rt, b"find.list", Task::Find)?;
-    run_list(&rt, b"withdraw.list", Task::Withdraw)?;
-    run_list(&rt, b"window.list", Task::Window)?;
-    run_list(&rt, b"days.list", Task::Day)?;
-    run_list(&rt, b"normal.list", Task::Normal)?;
-    run_bundle(&rt, b"normalisation.sheets", b"normalisation.list")?;
-    run_bundle(&rt, b"motives.sheets", b"motives.list")?;
-    if let Some(results) = open_named(&rt, b"withdraw_set.results")? {
-        run_list(&rt, b"withdraw_set.list", Task::WithdrawSet(&results))?;
-    }
-    run_list(&rt, b"batch.list", Task::Batch)?;
-    run_list(&rt, b"batch_heights.list", Task::Batch)?;
-    run_conversions(&rt)
+    let rt = &rt;
+    run_sheets(rt, b"admit.list", |sheet, _| admit_whole(rt, sheet))?;
+    run_sheets(
+        rt,
+        b"find.list",
+        |sheet, line| find_numbers(rt, sheet, line),
+    )?;
+    run_sheets(
+        rt,
+        b"withdraw.list",
+        |sheet, line| withdraw_number(rt, sheet, line),
+    )?;
+    run_list(rt, b"window.list", |line| ask_window(rt, line))?;
+    run_list(rt, b"days.list", |line| number_day(rt, line))?;
+    run_sheets(
+        rt,
+        b"normal.list",
+        |sheet, line| mark_number(rt, sheet, line),
+    )?;
+    run_bundle(rt, b"normalisation.sheets", b"normalisation.list")?;
+    run_bundle(rt, b"motives.sheets", b"motives.list")?;
+    run_sets(rt)?;
+    with_list(rt, b"batch.list", |list| run_batches(rt, list))?;
+    with_list(rt, b"batch_heights.list", |list| run_batches(rt, list))?;
+    run_conversions(rt)
 }

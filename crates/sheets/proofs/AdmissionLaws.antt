@@ -1,6 +1,12 @@
 -- Demand 1: admission answers T, C, L exactly if the sheet is good with these counts and the work buffer has at least T
 -- words, and a refusal exactly if its check is the first to fail, at its place; and the work buffer afterwards.
 -- Assumes nothing.
+use Rattle.std.specs.Prelude.{Result, Ok, Err}
+use Rattle.sheets.specs.declared.refusals.Counts.{Counts}
+use Rattle.sheets.specs.declared.refusals.Fault.{Fault}
+use Rattle.sheets.specs.declared.refusals.Fault.TheVariants.{Context}
+use Rattle.sheets.specs.declared.refusals.Refusal.{Refusal}
+use Rattle.sheets.specs.Refusals.{number_of, refused, counts}
 use mathlib.Core.Path.{◌≡◌, refl, sym, ◌∙◌, ap, subst}
 use mathlib.Core.Logic.{◌↔◌}
 use mathlib.Core.List.{List}
@@ -8,20 +14,13 @@ use Prim.Native.Nat.{ℕ, ◌*◌, ◌≤◌}
 use native.Mathlib.Omega.{arith}
 use lib.ListN.{length, drop, length-drop, get_or-append}
 use Rattle.terms.specs.Table.{TermTable, RowFault, broken, repeated, large, TreeSizes}
-use Rattle.terms.specs.Sizes.{check_terms}
+use Rattle.terms.specs.Faults.{number_of as row_number}
+use Rattle.terms.specs.Sizes.{TermsAnswer, check_terms}
 use Rattle.terms.specs.Buffers.{over}
-use Rattle.terms.specs.declared.sizes.TermsAnswer.{TermsAnswer}
-use Rattle.terms.specs.declared.sizes.TermsAnswer.TheVariants.{NoFault as no_term_fault, Faulty as faulty_terms}
-use Rattle.terms.proofs.TableLaws.{check_faultless, check_faulty, faultless_sizes, faulty_sizes}
+use Rattle.terms.proofs.TableLaws.{check_faultless, check_fault, faultless_sizes, faulty_sizes}
 use Rattle.rules.specs.Contexts.{ContextTable, check_contexts}
-use Rattle.rules.specs.declared.contexts.ContextsAnswer.{ContextsAnswer}
-use Rattle.rules.specs.declared.contexts.ContextsAnswer.TheVariants.{NoFault as no_context_fault, Faulty as faulty_contexts}
+use Rattle.rules.specs.declared.contexts.ContextsError.{ContextsError}
 use Rattle.rules.proofs.ContextTableCheckLaws.{check_faultless as contexts_faultless, check_faulty as contexts_faulty}
-use Rattle.sheets.specs.declared.layout.Layout.{Layout}
-use Rattle.sheets.specs.declared.lines.LinesAnswer.{LinesAnswer}
-use Rattle.sheets.specs.declared.lines.LinesAnswer.TheVariants.{NoFault as no_line_fault, Faulty as faulty_lines}
-use Rattle.sheets.specs.declared.admission.Admission.{Admission}
-use Rattle.sheets.specs.declared.admission.Admission.TheVariants.{Accepted, Refused}
 use Rattle.sheets.specs.Layout.{contexts_in, trailer_of}
 use Rattle.sheets.specs.Lines.{check_lines}
 use Rattle.sheets.specs.Admission.{after_lines, after_contexts, after_terms, after_layout, admit_of, work_from, work_after}
@@ -53,31 +52,35 @@ module _ {bytes : List ℕ} {T C L : ℕ} (laid : LaidOut bytes T C L) where
 
 module _ (bytes : List ℕ) (work : ℕ) where
   -- what an answer means
-  data Means : Admission → Type 0 where
-    accepted : {T C L : ℕ} → Good bytes T C L → T ≤ work → Means (Accepted T C L)
-    refused : {number place : ℕ} → FirstFault bytes work number place → Means (Refused number place)
+  data Means : Result Counts Refusal → Type 0 where
+    accepted : {T C L : ℕ} → Good bytes T C L → T ≤ work → Means (Ok (counts T C L))
+    faulty : {fault : Fault} {place : ℕ} → FirstFault bytes work fault place → Means (refused fault place)
 
   module _ (T C L : ℕ) (laid : LaidOut bytes T C L) (room : T ≤ work) where
-    on_lines : WellFormedTables bytes T C L → (a : LinesAnswer) → check_lines bytes T C L ≡ a → Means (after_lines T C L a)
+    on_lines : WellFormedTables bytes T C L → (a : Result (Unit {0}) Refusal) → check_lines bytes T C L ≡ a
+        → Means (after_lines (counts T C L) a)
     unfolding after_lines
-    on_lines tables no_line_fault e = accepted (record { tables = tables; lines = (lines_faultless bytes T C L).0 e }) room
-    on_lines tables (faulty_lines number place) e = refused (in_lines T C L tables room ((lines_faulty bytes T C L number place).0 e))
+    on_lines tables (Ok tt) e = accepted (record { tables = tables; lines = (lines_faultless bytes T C L).0 e }) room
+    on_lines tables (Err r) e = faulty (in_lines T C L tables room ((lines_faulty bytes T C L r.fault r.place).0 e))
 
-    on_contexts : TermTable bytes T → (a : ContextsAnswer) → check_contexts (contexts_in bytes T) T C ≡ a → Means (after_contexts T C L bytes a)
+    on_contexts : TermTable bytes T → (a : Result (Unit {0}) ContextsError) → check_contexts (contexts_in bytes T) T C ≡ a
+        → Means (after_contexts (counts T C L) bytes a)
     unfolding after_contexts
-    on_contexts terms no_context_fault e =
+    on_contexts terms (Ok tt) e =
         on_lines (record { laid = laid; terms = terms; contexts = (contexts_faultless (contexts_in bytes T) T C (whole_contexts laid)).0 e }) (check_lines bytes T C L) refl
-    on_contexts terms (faulty_contexts place) e = refused (in_contexts T C L laid room terms ((contexts_faulty (contexts_in bytes T) T C place (whole_contexts laid)).0 e))
+    on_contexts terms (Err f) e =
+        faulty (in_contexts T C L laid room terms
+        ((contexts_faulty (contexts_in bytes T) T C f.place (whole_contexts laid)).0 e))
 
-    on_terms : (a : TermsAnswer) → (check_terms bytes T).answer ≡ a → Means (after_terms T C L bytes a)
+    on_terms : (a : TermsAnswer) → (check_terms bytes T).answer ≡ a → Means (after_terms (counts T C L) bytes a)
     unfolding after_terms
-    on_terms no_term_fault e = on_contexts ((check_faultless bytes T (whole_terms laid)).0 e) (check_contexts (contexts_in bytes T) T C) refl
-    on_terms (faulty_terms number place) e = refused (in_terms T C L laid room ((check_faulty bytes T (whole_terms laid) number place).0 e))
+    on_terms (Ok tt) e = on_contexts ((check_faultless bytes T (whole_terms laid)).0 e) (check_contexts (contexts_in bytes T) T C) refl
+    on_terms (Err f) e = faulty (in_terms T C L laid room ((check_fault bytes T (whole_terms laid) f.fault f.place).0 e))
 
-  on_layout : {a : Layout} → LayoutMeans bytes work a → Means (after_layout bytes a)
+  on_layout : {a : Result Counts Fault} → LayoutMeans bytes work a → Means (after_layout bytes a)
   unfolding after_layout
   on_layout (counted {T} {C} {L} laid room) = on_terms T C L laid room (check_terms bytes T).answer refl
-  on_layout (wrong fault) = refused (in_layout fault)
+  on_layout (wrong fault) = faulty (in_layout fault)
 
   means : Means (admit_of bytes work)
   unfolding admit_of
@@ -85,68 +88,74 @@ module _ (bytes : List ℕ) (work : ℕ) where
 
   -- and the way back
   module _ {T C L : ℕ} (laid : LaidOut bytes T C L) (room : T ≤ work) where
-    to_terms_lem : admit_of bytes work ≡ after_terms T C L bytes (check_terms bytes T).answer
+    to_terms_lem : admit_of bytes work ≡ after_terms (counts T C L) bytes (check_terms bytes T).answer
     unfolding admit_of after_layout
     to_terms_lem = ap (after_layout bytes) ((counted_is bytes work T C L).1 (laid, room))
 
     module _ (terms : TermTable bytes T) where
-      to_contexts_lem : admit_of bytes work ≡ after_contexts T C L bytes (check_contexts (contexts_in bytes T) T C)
+      to_contexts_lem : admit_of bytes work ≡ after_contexts (counts T C L) bytes (check_contexts (contexts_in bytes T) T C)
       unfolding after_terms
-      to_contexts_lem = to_terms_lem ∙ ap (after_terms T C L bytes) ((check_faultless bytes T (whole_terms laid)).1 terms)
+      to_contexts_lem = to_terms_lem ∙ ap (after_terms (counts T C L) bytes) ((check_faultless bytes T (whole_terms laid)).1 terms)
 
-      to_lines_lem : ContextTable (contexts_in bytes T) T C → admit_of bytes work ≡ after_lines T C L (check_lines bytes T C L)
+      to_lines_lem : ContextTable (contexts_in bytes T) T C → admit_of bytes work ≡ after_lines (counts T C L) (check_lines bytes T C L)
       unfolding after_contexts
-      to_lines_lem contexts = to_contexts_lem ∙ ap (after_contexts T C L bytes) ((contexts_faultless (contexts_in bytes T) T C (whole_contexts laid)).1 contexts)
+      to_lines_lem contexts = to_contexts_lem ∙ ap (after_contexts (counts T C L) bytes) ((contexts_faultless (contexts_in bytes T) T C (whole_contexts laid)).1 contexts)
 
-  good_accepted : {T C L : ℕ} → Good bytes T C L → T ≤ work → admit_of bytes work ≡ Accepted T C L
+  good_accepted : {T C L : ℕ} → Good bytes T C L → T ≤ work → admit_of bytes work ≡ Ok (counts T C L)
   unfolding after_lines
   good_accepted {T} {C} {L} g room =
-      to_lines_lem g.tables.laid room g.tables.terms g.tables.contexts ∙ ap (after_lines T C L) ((lines_faultless bytes T C L).1 g.lines)
+      to_lines_lem g.tables.laid room g.tables.terms g.tables.contexts ∙ ap (after_lines (counts T C L)) ((lines_faultless bytes T C L).1 g.lines)
 
-  fault_refused : {number place : ℕ} → FirstFault bytes work number place → admit_of bytes work ≡ Refused number place
+  fault_refused : {fault : Fault} {place : ℕ} → FirstFault bytes work fault place → admit_of bytes work ≡ refused fault place
   unfolding admit_of after_layout after_terms after_contexts after_lines
-  fault_refused (in_layout {number} f) = ap (after_layout bytes) ((wrong_is bytes work number).1 f)
-  fault_refused (in_terms {number} {place} T C L laid room f) =
-      to_terms_lem laid room ∙ ap (after_terms T C L bytes) ((check_faulty bytes T (whole_terms laid) number place).1 f)
+  fault_refused (in_layout {fault} f) = ap (after_layout bytes) ((wrong_is bytes work fault).1 f)
+  fault_refused (in_terms {row} {place} T C L laid room f) =
+      to_terms_lem laid room ∙ ap (after_terms (counts T C L) bytes) ((check_fault bytes T (whole_terms laid) row place).1 f)
   fault_refused (in_contexts {place} T C L laid room terms f) =
-      to_contexts_lem laid room terms ∙ ap (after_contexts T C L bytes) ((contexts_faulty (contexts_in bytes T) T C place (whole_contexts laid)).1 f)
-  fault_refused (in_lines {number} {place} T C L t room f) =
-      to_lines_lem t.laid room t.terms t.contexts ∙ ap (after_lines T C L) ((lines_faulty bytes T C L number place).1 f)
+      to_contexts_lem laid room terms ∙ ap (after_contexts (counts T C L) bytes) ((contexts_faulty (contexts_in bytes T) T C place (whole_contexts laid)).1 f)
+  fault_refused (in_lines {fault} {place} T C L t room f) =
+      to_lines_lem t.laid room t.terms t.contexts ∙ ap (after_lines (counts T C L)) ((lines_faulty bytes T C L fault place).1 f)
 
-  pub accepted_is : (T C L : ℕ) → (admit_of bytes work ≡ Accepted T C L) ↔ (Good bytes T C L × (T ≤ work))
+  pub accepted_is : (T C L : ℕ) → (admit_of bytes work ≡ Ok (counts T C L)) ↔ (Good bytes T C L × (T ≤ work))
   accepted_is T C L = (λ e. from (subst Means e means), λ h. good_accepted h.0 h.1)
     where
-      from : Means (Accepted T C L) → Good bytes T C L × (T ≤ work)
+      from : Means (Ok (counts T C L)) → Good bytes T C L × (T ≤ work)
       from (accepted g room) = (g, room)
 
-  pub refused_is : (number place : ℕ) → (admit_of bytes work ≡ Refused number place) ↔ FirstFault bytes work number place
-  refused_is number place = (λ e. from (subst Means e means), fault_refused)
+  pub refused_is : (fault : Fault) (place : ℕ) → (admit_of bytes work ≡ refused fault place) ↔ FirstFault bytes work fault place
+  refused_is fault place = (λ e. from (subst Means e means), fault_refused)
     where
-      from : Means (Refused number place) → FirstFault bytes work number place
-      from (refused f) = f
+      from : Means (refused fault place) → FirstFault bytes work fault place
+      from (faulty f) = f
 
 -- the numbers of a stage
-layout_number : {bytes : List ℕ} {work number : ℕ} → LayoutFault bytes work number → (1 ≤ number) × (number ≤ 4)
+layout_number : {bytes : List ℕ} {work : ℕ} {fault : Fault} → LayoutFault bytes work fault
+    → (1 ≤ number_of fault) × (number_of fault ≤ 4)
+unfolding number_of
 layout_number (wrong_length f) = (omega arith, omega arith)
 layout_number (not_marked r f) = (omega arith, omega arith)
 layout_number (disagreeing r m f) = (omega arith, omega arith)
 layout_number (short_work T C L h k) = (omega arith, omega arith)
 
-row_number : {bytes : List ℕ} {n number : ℕ} → RowFault bytes n number → (5 ≤ number) × (number ≤ 7)
-row_number (broken f) = (omega arith, omega arith)
-row_number (repeated g r) = (omega arith, omega arith)
-row_number (large g f s) = (omega arith, omega arith)
+row_range : {bytes : List ℕ} {n number : ℕ} → RowFault bytes n number → (5 ≤ number) × (number ≤ 7)
+row_range (broken f) = (omega arith, omega arith)
+row_range (repeated g r) = (omega arith, omega arith)
+row_range (large g f s) = (omega arith, omega arith)
 
-line_number : {bytes : List ℕ} {T C n number : ℕ} → LineFault bytes T C n number → (9 ≤ number) × (number ≤ 10)
+line_number : {bytes : List ℕ} {T C n : ℕ} {fault : Fault} → LineFault bytes T C n fault
+    → (9 ≤ number_of fault) × (number_of fault ≤ 10)
+unfolding number_of
 line_number (misfit f) = (omega arith, omega arith)
 line_number (no_instance ok f) = (omega arith, omega arith)
 
 -- the numbers of admission
-pub fault_number : {bytes : List ℕ} {work number place : ℕ} → FirstFault bytes work number place → (1 ≤ number) × (number ≤ 10)
+pub fault_number : {bytes : List ℕ} {work : ℕ} {fault : Fault} {place : ℕ} → FirstFault bytes work fault place
+    → (1 ≤ number_of fault) × (number_of fault ≤ 10)
+unfolding number_of
 fault_number (in_layout f) = ((layout_number f).0, omega (arith, (layout_number f).1))
-fault_number (in_terms T C L laid room f) = (omega (arith, (row_number f.fault).0), omega (arith, (row_number f.fault).1))
+fault_number (in_terms T C L laid room f) = (omega (arith, (row_range f.fault).0), omega (arith, (row_range f.fault).1))
 fault_number (in_contexts T C L laid room terms f) = (omega arith, omega arith)
-fault_number (in_lines T C L t room f) = (omega (arith, (line_number f.fault).0), (line_number f.fault).1)
+fault_number (in_lines T C L t room f) = (omega (arith, (line_number f.wrong).0), (line_number f.wrong).1)
 
 module _ (bytes : List ℕ) (before : List ℕ) where
   module _ {T C L : ℕ} (laid : LaidOut bytes T C L) (room : T ≤ length before) where
@@ -165,9 +174,9 @@ module _ (bytes : List ℕ) (before : List ℕ) where
     left_counted terms = subst (λ t. SizesLeft bytes t.terms before (work_after bytes before)) (sym laid.trailer) (left_all terms)
 
     -- from number 8 on the terms are right
-    pub left_wholly : TermTable bytes T → (number place : ℕ) → 8 ≤ number
-        → WorkLeft bytes before (work_after bytes before) number place
-    left_wholly terms number place h =
+    pub left_wholly : TermTable bytes T → (fault : Fault) (place : ℕ) → 8 ≤ number_of fault
+        → WorkLeft bytes before (work_after bytes before) (number_of fault) place
+    left_wholly terms fault place h =
         record {
           untouched = λ k. absurd (omega arith);
           partly = λ k l. absurd (omega arith);
@@ -175,32 +184,32 @@ module _ (bytes : List ℕ) (before : List ℕ) where
         }
 
   -- the work buffer after a sheet is admitted
-  pub accepted_left : (T C L : ℕ) → admit_of bytes (length before) ≡ Accepted T C L → SizesLeft bytes T before (work_after bytes before)
+  pub accepted_left : (T C L : ℕ) → admit_of bytes (length before) ≡ Ok (counts T C L) → SizesLeft bytes T before (work_after bytes before)
   accepted_left T C L e =
       let g = (accepted_is bytes (length before) T C L).0 e in
       left_all g.0.tables.laid g.1 g.0.tables.terms
 
-  pub fault_left : {number place : ℕ} → FirstFault bytes (length before) number place
-      → WorkLeft bytes before (work_after bytes before) number place
-  unfolding work_after work_from
-  fault_left (in_layout {number} f) =
+  pub fault_left : {fault : Fault} {place : ℕ} → FirstFault bytes (length before) fault place
+      → WorkLeft bytes before (work_after bytes before) (number_of fault) place
+  unfolding work_after work_from number_of
+  fault_left (in_layout {fault} f) =
       let n = layout_number f in
       record {
-        untouched = λ h. ap (work_from bytes before) ((wrong_is bytes (length before) number).1 f);
+        untouched = λ h. ap (work_from bytes before) ((wrong_is bytes (length before) fault).1 f);
         partly = λ h k. absurd (omega arith);
         wholly = λ h. absurd (omega arith);
       }
-  fault_left (in_terms {number} {place} T C L laid room f) =
-      let n = row_number f.fault in
+  fault_left (in_terms {row} {place} T C L laid room f) =
+      let n = row_range f.fault in
       record {
         untouched = λ h. absurd (omega arith);
-        partly = λ h k. left_sizes laid room place (omega (arith, f.within)) (faulty_sizes bytes T (whole_terms laid) number place ((check_faulty bytes T (whole_terms laid) number place).1 f));
+        partly = λ h k. left_sizes laid room place (omega (arith, f.within)) (faulty_sizes bytes T (whole_terms laid) (row_number row) place (row, refl, (check_fault bytes T (whole_terms laid) row place).1 f));
         wholly = λ h. absurd (omega arith);
       }
-  fault_left (in_contexts {place} T C L laid room terms f) = left_wholly laid room terms 8 place (omega arith)
-  fault_left (in_lines {number} {place} T C L t room f) =
-      left_wholly t.laid room t.terms number place (omega (arith, line_number f.fault))
+  fault_left (in_contexts {place} T C L laid room terms f) = left_wholly laid room terms Context place (omega arith)
+  fault_left (in_lines {fault} {place} T C L t room f) =
+      left_wholly t.laid room t.terms fault place (omega (arith, line_number f.wrong))
 
   -- and after a refusal
-  pub refused_left : (number place : ℕ) → admit_of bytes (length before) ≡ Refused number place → WorkLeft bytes before (work_after bytes before) number place
-  refused_left number place e = fault_left ((refused_is bytes (length before) number place).0 e)
+  pub refused_left : (fault : Fault) (place : ℕ) → admit_of bytes (length before) ≡ refused fault place → WorkLeft bytes before (work_after bytes before) (number_of fault) place
+  refused_left fault place e = fault_left ((refused_is bytes (length before) fault place).0 e)

@@ -1,92 +1,90 @@
 -- What the functions of admission and finding answer, from what their callees answer; what their callees ask.
 -- Assumes nothing.
+use Rattle.std.specs.Prelude.{Result, Ok, Err}
+use Rattle.sheets.specs.declared.refusals.Counts.{Counts}
+use Rattle.sheets.specs.declared.refusals.Fault.{Fault}
+use Rattle.sheets.specs.declared.refusals.Refusal.{Refusal}
+use Rattle.sheets.specs.Refusals.{refused}
 use mathlib.Core.Path.{◌≡◌, sym, ◌∙◌, ap}
 use mathlib.Core.List.{List}
 use Prim.Native.Nat.{ℕ, ◌-◌, ◌*◌, ◌≤◌}
 use native.Mathlib.Omega.{arith}
 use lib.ListN.{length, take, drop, length-drop}
 use Rattle.terms.specs.Table.{TermTable}
-use Rattle.terms.specs.Sizes.{check_terms}
+use Rattle.terms.specs.Sizes.{TermsAnswer, check_terms}
 use Rattle.terms.specs.Buffers.{over}
-use Rattle.terms.specs.declared.sizes.TermsAnswer.{TermsAnswer}
-use Rattle.terms.specs.declared.sizes.TermsAnswer.TheVariants.{NoFault as no_term_fault}
 use Rattle.terms.proofs.TableLaws.{check_faultless}
 use Rattle.rules.specs.Contexts.{check_contexts}
-use Rattle.rules.specs.declared.contexts.ContextsAnswer.{ContextsAnswer}
-use Rattle.rules.specs.declared.contexts.ContextsAnswer.TheVariants.{NoFault as no_context_fault, Faulty as faulty_contexts}
+use Rattle.rules.specs.declared.contexts.ContextsError.{ContextsError}
 use Rattle.rules.proofs.ContextTableCheckLaws.{check_faultless as contexts_faultless}
-use Rattle.sheets.specs.declared.layout.Layout.{Layout}
-use Rattle.sheets.specs.declared.layout.Layout.TheVariants.{Counted, Wrong}
-use Rattle.sheets.specs.declared.admission.Admission.{Admission}
-use Rattle.sheets.specs.declared.admission.Admission.TheVariants.{Accepted, Refused}
-use Rattle.sheets.specs.declared.finding.Wanted.{Wanted}
-use Rattle.sheets.specs.declared.finding.Found.{Found}
-use Rattle.sheets.specs.Layout.{edition_of, contexts_in, layout_of}
+use Rattle.sheets.specs.Layout.{contexts_in, layout_of}
 use Rattle.sheets.specs.Lines.{check_lines}
 use Rattle.sheets.specs.Admission.{after_lines, after_contexts, after_terms, after_layout, admit_of, work_from, work_after}
-use Rattle.sheets.specs.Finding.{search_lines, find_after, find_of}
-use Rattle.sheets.specs.Good.{WellFormedTables, Good}
+use Rattle.sheets.specs.Good.{WellFormedTables}
 use Rattle.sheets.specs.GoodLayout.{LaidOut}
-use Rattle.sheets.specs.Citing.{CitingLines}
 use Rattle.sheets.proofs.BufferLaws.{part_to_end}
-use Rattle.sheets.proofs.CitingLaws.{lines_part, part_lines, citing_lines}
 use Rattle.sheets.proofs.LayoutLaws.{counted_is}
-use Rattle.sheets.proofs.AdmissionLaws.{whole_terms, whole_contexts, accepted_is}
+use Rattle.sheets.proofs.AdmissionLaws.{whole_terms, whole_contexts}
 
-module _ (bytes : List ℕ) (T C L : ℕ) where
-  -- `admit_contexts`, where a is what the check of the part of the sheet answers
-  module _ (a : ContextsAnswer) (e : a ≡ check_contexts (take (length bytes - 10 * T) (drop (10 * T) bytes)) T C) where
-    answered : a ≡ check_contexts (contexts_in bytes T) T C
-    unfolding contexts_in
-    answered = e ∙ ap (λ l. check_contexts l T C) (part_to_end bytes (10 * T))
+-- `admit`: n is what the layout shows
+module _ (bytes before : List ℕ) (n : Counts) (a : Result Counts Fault) (e : a ≡ layout_of bytes (length before))
+    (h : a ≡ Ok n) where
+  layout_right : LaidOut bytes n.terms n.contexts n.lines × (n.terms ≤ length before)
+  layout_right = (counted_is bytes (length before) n.terms n.contexts n.lines).0 (sym e ∙ h)
 
-    pub contexts_8 : (place : ℕ) → a ≡ faulty_contexts place → Refused 8 place ≡ after_contexts T C L bytes (check_contexts (contexts_in bytes T) T C)
-    unfolding after_contexts
-    contexts_8 place h = ap (after_contexts T C L bytes) (sym h ∙ answered)
+  pub laid_out : LaidOut bytes n.terms n.contexts n.lines
+  laid_out = layout_right.0
 
-    pub contexts_right : a ≡ no_context_fault → after_lines T C L (check_lines bytes T C L) ≡ after_contexts T C L bytes (check_contexts (contexts_in bytes T) T C)
-    unfolding after_contexts
-    contexts_right h = ap (after_contexts T C L bytes) (sym h ∙ answered)
+  pub sizes_room : n.terms ≤ length before
+  sizes_room = layout_right.1
 
-    pub well_formed : LaidOut bytes T C L → TermTable bytes T → a ≡ no_context_fault → WellFormedTables bytes T C L
-    well_formed laid terms h =
-        record { laid = laid; terms = terms; contexts = (contexts_faultless (contexts_in bytes T) T C (whole_contexts laid)).0 (sym answered ∙ h) }
+  pub work_left : over (check_terms bytes n.terms).sizes before ≡ work_after bytes before
+  unfolding work_after work_from
+  work_left = ap (work_from bytes before) (sym h ∙ e)
 
-  pub contexts_whole : LaidOut bytes T C L → 4 * C ≤ length (take (length bytes - 10 * T) (drop (10 * T) bytes))
-  contexts_whole laid = omega (arith, laid.long, length-drop (10 * T) bytes, ap length (part_to_end bytes (10 * T)))
+  -- t is what the check of the terms answers
+  module _ (t : TermsAnswer) (f : t ≡ (check_terms bytes n.terms).answer) where
+    pub on_terms : after_terms n bytes t ≡ admit_of bytes (length before)
+    unfolding admit_of after_layout
+    on_terms = ap (after_terms n bytes) f ∙ ap (after_layout bytes) (sym h ∙ e)
 
-  -- `admit_tables`
-  pub terms_right : (a : TermsAnswer) → LaidOut bytes T C L → a ≡ (check_terms bytes T).answer → a ≡ no_term_fault → TermTable bytes T
-  terms_right a laid e h = (check_faultless bytes T (whole_terms laid)).0 (sym e ∙ h)
+    module _ (g : t ≡ Ok tt) where
+      pub terms_right : TermTable bytes n.terms
+      terms_right = (check_faultless bytes n.terms (whole_terms laid_out)).0 (sym f ∙ g)
 
-  -- `admit`, where a is the answer for the layout
-  pub layout_right : (work : ℕ) (a : Layout) → a ≡ layout_of bytes work → a ≡ Counted T C L → LaidOut bytes T C L × (T ≤ work)
-  layout_right work a e h = (counted_is bytes work T C L).0 (sym e ∙ h)
+      pub contexts_whole : 4 * n.contexts ≤ length (take (length bytes - 10 * n.terms) (drop (10 * n.terms) bytes))
+      contexts_whole =
+          omega (arith, laid_out.long, length-drop (10 * n.terms) bytes, ap length (part_to_end bytes (10 * n.terms)))
 
-  pub layout_counted : (before : List ℕ) (a : Layout) → a ≡ layout_of bytes (length before) → a ≡ Counted T C L
-      → (after_terms T C L bytes (check_terms bytes T).answer ≡ admit_of bytes (length before)) × (over (check_terms bytes T).sizes before ≡ work_after bytes before)
-  unfolding admit_of after_layout work_after work_from
-  layout_counted before a e h = (ap (after_layout bytes) (sym h ∙ e), ap (work_from bytes before) (sym h ∙ e))
+      -- x is what the check of the contexts answers, of the part of the sheet that begins with them
+      module _ (x : Result (Unit {0}) ContextsError)
+          (k : x ≡ check_contexts (take (length bytes - 10 * n.terms) (drop (10 * n.terms) bytes)) n.terms n.contexts) where
+        answered : x ≡ check_contexts (contexts_in bytes n.terms) n.terms n.contexts
+        unfolding contexts_in
+        answered = k ∙ ap (λ l. check_contexts l n.terms n.contexts) (part_to_end bytes (10 * n.terms))
 
-  -- where a is the answer of admission
-  module _ (work : ℕ) (a : Admission) (e : a ≡ admit_of bytes work) (h : a ≡ Accepted T C L) where
-    pub admitted_good : Good bytes T C L
-    admitted_good = ((accepted_is bytes work T C L).0 (sym e ∙ h)).0
+        pub on_contexts : after_contexts n bytes x ≡ admit_of bytes (length before)
+        unfolding after_terms
+        on_contexts = ap (after_contexts n bytes) answered ∙ ap (after_terms n bytes) (sym g) ∙ on_terms
 
-    pub accepted_laid : LaidOut bytes T C L
-    accepted_laid = admitted_good.tables.laid
+        module _ (l : x ≡ Ok tt) where
+          pub well_formed : WellFormedTables bytes n.terms n.contexts n.lines
+          well_formed =
+              record {
+                laid = laid_out;
+                terms = terms_right;
+                contexts =
+                    (contexts_faultless (contexts_in bytes n.terms) n.terms n.contexts (whole_contexts laid_out)).0
+                    (sym answered ∙ l);
+              }
 
-    pub lines_citing : {edition : ℕ} → edition ≡ edition_of bytes
-        → (20 * L ≤ length (lines_part bytes T C)) × (L ≤ 1024) × CitingLines edition (lines_part bytes T C) L
-    lines_citing = citing_lines bytes T C L admitted_good
+          pub on_lines : (y : Result (Unit {0}) Refusal) → y ≡ check_lines bytes n.terms n.contexts n.lines
+              → after_lines n y ≡ admit_of bytes (length before)
+          unfolding after_contexts
+          on_lines y m = ap (after_lines n) m ∙ ap (after_contexts n bytes) (sym l) ∙ on_contexts
 
-    pub find_searched : (w : Wanted) {edition : ℕ} → edition ≡ edition_of bytes → (r : Found)
-        → r ≡ search_lines edition (lines_part bytes T C) L w → r ≡ find_of bytes work w
-    unfolding find_of find_after
-    find_searched w own r f =
-        f ∙ (λ i. search_lines (own i) (part_lines bytes T C i) L w) ∙ ap (find_after bytes w) (sym h ∙ e)
-
-pub layout_wrong : (bytes before : List ℕ) (number : ℕ) (a : Layout) → a ≡ layout_of bytes (length before) → a ≡ Wrong number
-    → (Refused number 0 ≡ admit_of bytes (length before)) × (before ≡ work_after bytes before)
+-- the layout is refused
+pub layout_wrong : (bytes before : List ℕ) (fault : Fault) (a : Result Counts Fault) → a ≡ layout_of bytes (length before)
+    → a ≡ Err fault → (refused fault 0 ≡ admit_of bytes (length before)) × (before ≡ work_after bytes before)
 unfolding admit_of after_layout work_after work_from
-layout_wrong bytes before number a e h = (ap (after_layout bytes) (sym h ∙ e), ap (work_from bytes before) (sym h ∙ e))
+layout_wrong bytes before fault a e h = (ap (after_layout bytes) (sym h ∙ e), ap (work_from bytes before) (sym h ∙ e))

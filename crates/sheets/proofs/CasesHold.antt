@@ -7,6 +7,7 @@ use Rattle.terms.specs.Words.{word_at, bytes_of}
 use Rattle.terms.specs.Rows.{word, tag, term_to, term, row_of, holds_row}
 use Rattle.terms.specs.Table.{used_limit, limit}
 use Rattle.terms.specs.Search.{search_from, ends_if}
+use Rattle.terms.specs.Faults.{number_of}
 use Rattle.terms.specs.Sizes.{fits_row, repeated_below, sum_to, row_size, size_answer, row_answer, row_step, check_terms}
 use Rattle.rules.specs.Editions.{edition_known, last_rule, motive_asked, row_in}
 use Rattle.rules.specs.Subjects.{uses_subject}
@@ -23,7 +24,7 @@ use Rattle.sheets.specs.Cases.{shared_words, words_of_s, words_of_m9, answer_to,
 
 pub cases_hold : map answered cases ≡ map expected cases
 unfolding tag_of arity used shape word_at word tag term_to term used_limit limit
-    row_of fits_row holds_row repeated_below sum_to row_size size_answer row_answer row_step check_terms search_from ends_if
+    row_of fits_row holds_row repeated_below sum_to row_size size_answer row_answer number_of row_step check_terms search_from ends_if
     edition_known last_rule motive_asked row_in
     uses_subject rule_known form_of premise_count instance? last_context stated plain_judgment
     parent_of type_of context_to context context_fits holds_context repeated_within repeated_context right_context check_contexts

@@ -1,13 +1,14 @@
 -- What the converter's code returns, at each place where it does.
 -- Assumes nothing.
+use Rattle.std.specs.Prelude.{Result}
+use Rattle.sheets.specs.declared.refusals.Counts.{Counts}
+use Rattle.sheets.specs.declared.refusals.Refusal.{Refusal}
 use mathlib.Core.Path.{◌≡◌, sym, ◌∙◌, ap, subst₂}
 use mathlib.Core.List.{List}
 use Prim.Native.Nat.{ℕ, ◌+◌, ◌*◌}
 use lib.ListN.{length, get_or}
 use Rattle.terms.specs.Words.{bytes_of}
 use Rattle.terms.specs.Buffers.{over}
-use Rattle.sheets.specs.declared.admission.Admission.{Admission}
-use Rattle.sheets.specs.declared.conversion.Conversion.{Conversion}
 use Rattle.sheets.specs.Admission.{admit_of}
 use Rattle.sheets.specs.Good.{Good}
 use Rattle.sheets.specs.Withdrawal.{lines_start}
@@ -33,12 +34,12 @@ writer_leaves b T C L g first found before after e =
     ∙ ap (λ s. over s before) (sym (converted_is b T C L g))
 
 -- `convert`, where a is the answer of admission
-pub concludes : (b : List ℕ) (work : ℕ) (before : List ℕ) (a : Admission) → a ≡ admit_of b work
-    → (r : Conversion) (after : List ℕ) → r ≡ convert_after b (length before) a
+pub concludes : (b : List ℕ) (work : ℕ) (before : List ℕ) (a : Result Counts Refusal) → admit_of b work ≡ a
+    → (r : Result ℕ Refusal) (after : List ℕ) → r ≡ convert_after b (length before) a
     → after ≡ output_from (converted b) before r
     → (r ≡ convert_of b work (length before)) × (after ≡ converted_after b work before) × KeepsEveryLine b after r
 unfolding convert_of converted_after
 concludes b work before a e r after x y =
-    let answer = x ∙ ap (convert_after b (length before)) e in
+    let answer = x ∙ ap (convert_after b (length before)) (sym e) in
     let left = y ∙ ap (output_from (converted b) before) answer in
     (answer, left, subst₂ (KeepsEveryLine b) (sym left) (sym answer) (convert_keeps b work before))

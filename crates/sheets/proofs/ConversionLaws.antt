@@ -1,6 +1,12 @@
 -- Conversion: what the new sheet holds, and, on a sheet that admission accepts, that each answer is given exactly if it
 -- means what document 02 says. On any other sheet admission's refusal is answered.
 -- Assumes nothing.
+use Rattle.std.specs.Prelude.{Result, Ok, Err}
+use Rattle.sheets.specs.declared.refusals.Counts.{Counts}
+use Rattle.sheets.specs.declared.refusals.Fault.{Fault}
+use Rattle.sheets.specs.declared.refusals.Fault.TheVariants.{Room, UpToDate, NoMotive}
+use Rattle.sheets.specs.declared.refusals.Refusal.{Refusal}
+use Rattle.sheets.specs.Refusals.{refused, counts}
 use mathlib.Core.Path.{◌≡◌, refl, sym, ◌∙◌, ap, subst}
 use mathlib.Core.Logic.{◌↔◌}
 use mathlib.Core.List.{List}
@@ -11,10 +17,6 @@ use lib.ListN.{length, take, drop}
 use lib.Seq.{take_at}
 use borrow.Author.Tests.{lt-ltb, le-ltb, le-leb, lt-leb}
 use Rattle.terms.specs.Buffers.{over}
-use Rattle.sheets.specs.declared.admission.Admission.{Admission}
-use Rattle.sheets.specs.declared.admission.Admission.TheVariants.{Accepted, Refused as not_admitted}
-use Rattle.sheets.specs.declared.conversion.Conversion.{Conversion}
-use Rattle.sheets.specs.declared.conversion.Conversion.TheVariants.{Written, Refused}
 use Rattle.sheets.specs.Layout.{lines_in, trailer_word, trailer_of, edition_of}
 use Rattle.sheets.specs.Lines.{line_word}
 use Rattle.sheets.specs.Admission.{admit_of}
@@ -143,26 +145,26 @@ module _ (b : List ℕ) (T C L : ℕ) (old : LaidOut b T C L) where
 
 -- the answers on an accepted sheet
 module _ (bytes : List ℕ) (T C L room : ℕ) where
-  pub answer_20 : new_edition ≤ edition_of bytes → convert_admitted bytes T C L room ≡ Refused 20 0
+  pub answer_20 : new_edition ≤ edition_of bytes → convert_admitted bytes T C L room ≡ refused UpToDate 0
   unfolding convert_admitted
   answer_20 h = rw (le-leb new_edition (edition_of bytes) h, convert_admitted)
 
   module _ (early : edition_of bytes < new_edition) where
     pub answer_21 : first_without bytes T C L < L
-        → convert_admitted bytes T C L room ≡ Refused 21 (first_without bytes T C L)
+        → convert_admitted bytes T C L room ≡ refused NoMotive (first_without bytes T C L)
     unfolding convert_admitted
     answer_21 h = rw (lt-leb new_edition (edition_of bytes) early, lt-ltb _ _ h, convert_admitted)
 
     module _ (all : L ≤ first_without bytes T C L) where
-      pub answer_13 : room < length bytes → convert_admitted bytes T C L room ≡ Refused 13 0
+      pub answer_13 : room < length bytes → convert_admitted bytes T C L room ≡ refused Room 0
       unfolding convert_admitted
       answer_13 h = rw (lt-leb new_edition (edition_of bytes) early, le-ltb _ _ all, lt-ltb _ _ h, convert_admitted)
 
-      pub answer_written : length bytes ≤ room → convert_admitted bytes T C L room ≡ Written (length bytes)
+      pub answer_written : length bytes ≤ room → convert_admitted bytes T C L room ≡ Ok (length bytes)
       unfolding convert_admitted
       answer_written h = rw (lt-leb new_edition (edition_of bytes) early, le-ltb _ _ all, le-ltb _ _ h, convert_admitted)
 
-  abbrev Means : Conversion → Type 0
+  abbrev Means : Result ℕ Refusal → Type 0
   Means = AdmittedConversionMeans bytes T C L room
 
   all_there : L ≤ first_without bytes T C L → AllMotives bytes T C L
@@ -191,31 +193,31 @@ module _ (bytes : List ℕ) (T C L room : ℕ) where
           subst Means (sym (answer_written early none room_there))
           (whole early (all_there none) room_there)
 
-  back : {a : Conversion} → Means a → convert_admitted bytes T C L room ≡ a
+  back : {a : Result ℕ Refusal} → Means a → convert_admitted bytes T C L room ≡ a
   back (asks_already e) = answer_20 e
   back (no_motive {n} early m) =
       let first = lowest_without bytes T C L n m in
-      answer_21 early (omega (arith, first, m.within)) ∙ ap (Refused 21) first
+      answer_21 early (omega (arith, first, m.within)) ∙ ap (refused NoMotive) first
   back (no_room early all r) = answer_13 early (there_all all) r
   back (whole early all r) = answer_written early (there_all all) r
 
-  admitted_means : (a : Conversion) → (convert_admitted bytes T C L room ≡ a) ↔ Means a
+  admitted_means : (a : Result ℕ Refusal) → (convert_admitted bytes T C L room ≡ a) ↔ Means a
   admitted_means a = (λ e. subst Means e means, back)
 
 module _ (bytes : List ℕ) (work room : ℕ) where
   -- a refusal of admission is handed on
-  pub convert_refused : (number place : ℕ) → admit_of bytes work ≡ not_admitted number place
-      → convert_of bytes work room ≡ Refused number place
+  pub convert_refused : (fault : Fault) (place : ℕ) → admit_of bytes work ≡ refused fault place
+      → convert_of bytes work room ≡ refused fault place
   unfolding convert_of convert_after
-  convert_refused number place e = ap (convert_after bytes room) e
+  convert_refused fault place e = ap (convert_after bytes room) e
 
-  module _ (T C L : ℕ) (accepted : admit_of bytes work ≡ Accepted T C L) where
+  module _ (T C L : ℕ) (accepted : admit_of bytes work ≡ Ok (counts T C L)) where
     convert_admitted_lem : convert_of bytes work room ≡ convert_admitted bytes T C L room
     unfolding convert_of convert_after
     convert_admitted_lem = ap (convert_after bytes room) accepted
 
     -- on an accepted sheet an answer is given exactly if it means what it should
-    pub convert_is : (a : Conversion) → (convert_of bytes work room ≡ a) ↔ AdmittedConversionMeans bytes T C L room a
+    pub convert_is : (a : Result ℕ Refusal) → (convert_of bytes work room ≡ a) ↔ AdmittedConversionMeans bytes T C L room a
     convert_is a = (
       λ e. (admitted_means bytes T C L room a).0 (sym convert_admitted_lem ∙ e),
       λ m. convert_admitted_lem ∙ (admitted_means bytes T C L room a).1 m,
@@ -240,7 +242,7 @@ module _ (bytes : List ℕ) (T C L : ℕ) (g : Good bytes T C L) where
       take_at (converted bytes) (drop (length (converted bytes)) before) (length bytes) converted-length
 
 module _ (bytes : List ℕ) (work : ℕ) (before : List ℕ) where
-  on_means : (T C L : ℕ) → Good bytes T C L → {a : Conversion} → AdmittedConversionMeans bytes T C L (length before) a
+  on_means : (T C L : ℕ) → Good bytes T C L → {a : Result ℕ Refusal} → AdmittedConversionMeans bytes T C L (length before) a
       → KeepsEveryLine bytes (output_from (converted bytes) before a) a
   unfolding KeepsEveryLine output_from
   on_means T C L g (asks_already e) = tt
@@ -255,13 +257,14 @@ module _ (bytes : List ℕ) (work : ℕ) (before : List ℕ) where
         ap stated_by new ∙ stated_added bytes (converted bytes) T C L g early added,
       )
 
-  on_admission : (a : Admission) → admit_of bytes work ≡ a
+  on_admission : (a : Result Counts Refusal) → admit_of bytes work ≡ a
       → KeepsEveryLine bytes (output_from (converted bytes) before (convert_after bytes (length before) a))
       (convert_after bytes (length before) a)
   unfolding KeepsEveryLine convert_after
-  on_admission (not_admitted number place) e = tt
-  on_admission (Accepted T C L) e =
-      on_means T C L ((accepted_is bytes work T C L).0 e).0 (means bytes T C L (length before))
+  on_admission (Err r) e = tt
+  on_admission (Ok n) e =
+      on_means n.terms n.contexts n.lines ((accepted_is bytes work n.terms n.contexts n.lines).0 e).0
+      (means bytes n.terms n.contexts n.lines (length before))
 
   pub convert_keeps : KeepsEveryLine bytes (converted_after bytes work before) (convert_of bytes work (length before))
   unfolding converted_after convert_of

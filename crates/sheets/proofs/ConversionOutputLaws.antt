@@ -1,5 +1,7 @@
 -- The output after a conversion is what document 02 says, for any sheet and buffers; no other bytes are.
 -- Assumes nothing.
+use Rattle.std.specs.Prelude.{Result, Ok, Err}
+use Rattle.sheets.specs.declared.refusals.Refusal.{Refusal}
 use mathlib.Core.Path.{◌≡◌, refl, sym, ◌∙◌, ap, subst}
 use mathlib.Core.Logic.{⊎_elim}
 use mathlib.Core.List.{List}
@@ -11,8 +13,6 @@ use Rattle.terms.specs.Words.{word_at}
 use Rattle.terms.specs.Buffers.{over}
 use Rattle.rules.proofs.EditionLaws.{motive_or_not}
 use Rattle.sheets.specs.declared.layout.Trailer.{Trailer}
-use Rattle.sheets.specs.declared.conversion.Conversion.{Conversion}
-use Rattle.sheets.specs.declared.conversion.Conversion.TheVariants.{Written, Refused}
 use Rattle.sheets.specs.Layout.{lines_in, trailer_of}
 use Rattle.sheets.specs.Lines.{line_word, line_at}
 use Rattle.sheets.specs.Good.{Good}
@@ -131,27 +131,27 @@ module _ {bytes : List ℕ} {T C L : ℕ} (g : Good bytes T C L) (all : AllMotiv
           of_words
 
 module _ (bytes : List ℕ) (work : ℕ) (before : List ℕ) where
-  abbrev Means : Conversion → Type 0
+  abbrev Means : Result ℕ Refusal → Type 0
   Means = ConversionMeans bytes work (length before)
 
-  left : (a : Conversion) → Means a → ConversionLeft bytes before (output_from (converted bytes) before a) a
+  left : (a : Result ℕ Refusal) → Means a → ConversionLeft bytes before (output_from (converted bytes) before a) a
   unfolding ConversionLeft output_from
-  left (Refused number place) m = refl
-  left (Written new) m = at m
+  left (Err r) m = refl
+  left (Ok new) m = at m
     where
-      at : {l : ℕ} → Means (Written l) → ConvertedLeft bytes before (over (converted bytes) before) l
+      at : {l : ℕ} → Means (Ok l) → ConvertedLeft bytes before (over (converted bytes) before) l
       at (admitted g fits (whole early all room)) = added_left g all before room
 
-  only : (a : Conversion) → Means a → (after : List ℕ) → Bytes after → ConversionLeft bytes before after a
+  only : (a : Result ℕ Refusal) → Means a → (after : List ℕ) → Bytes after → ConversionLeft bytes before after a
       → after ≡ output_from (converted bytes) before a
   unfolding ConversionLeft output_from
-  only (Refused number place) m after b o = o
-  only (Written new) m after b o = at m o
+  only (Err r) m after b o = o
+  only (Ok new) m after b o = at m o
     where
-      at : {l : ℕ} → Means (Written l) → ConvertedLeft bytes before after l → after ≡ over (converted bytes) before
+      at : {l : ℕ} → Means (Ok l) → ConvertedLeft bytes before after l → after ≡ over (converted bytes) before
       at (admitted g fits (whole early all room)) k = added_only g all before after b k
 
-  module _ (a : Conversion) (answer : convert_of bytes work (length before) ≡ a) where
+  module _ (a : Result ℕ Refusal) (answer : convert_of bytes work (length before) ≡ a) where
     means : Means a
     means = (conversion_is bytes work (length before) a).0 answer
 

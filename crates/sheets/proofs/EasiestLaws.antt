@@ -1,20 +1,18 @@
 -- The easiest of the lines that are chosen: the search answers line i exactly if i is that line, and none exactly if no
 -- line is chosen; there is one easiest line at most.
 -- Assumes nothing.
-use mathlib.Core.Path.{◌≡◌, refl, sym, ◌∙◌, ap, subst}
+use mathlib.Core.Path.{◌≡◌, refl, sym, ap, subst}
 use mathlib.Core.Logic.{◌↔◌}
 use mathlib.Core.Bool.{Bool, true, false}
-use mathlib.Core.Option.{Option, none, some}
+use Rattle.std.specs.Prelude.{Option, Some, None, IfSome}
 use Prim.Native.Nat.{ℕ, zero, suc, ◌≤◌, ◌<◌}
-use native.Mathlib.Decide.{dec_lt}
 use native.Mathlib.Omega.{arith}
-use lib.Dec.{leb, ltb}
+use lib.Dec.{leb}
 use borrow.Author.Tests.{leb-true, leb-false}
 use Rattle.terms.specs.Decides.{Decides}
 use Rattle.terms.proofs.Shape.{below_or_last}
-use Rattle.terms.proofs.Tests.{says_lt, says_le, refutes, refuted}
+use Rattle.terms.proofs.Tests.{says_le, refutes, refuted}
 use Rattle.sheets.specs.Easiest.{better, easiest, Easiest}
-use Rattle.sheets.specs.SearchSteps.{line_below}
 
 -- there is one at most
 pub easiest_one : {Chosen : ℕ → Type 0} {height : ℕ → ℕ} {count i j : ℕ}
@@ -26,8 +24,8 @@ easiest_one {height} {i} {j} a b =
 module _ (Chosen : ℕ → Type 0) (height : ℕ → ℕ) where
   -- what the best of the first n lines means
   data Best (n : ℕ) : Option ℕ → Type 0 where
-    no_line : ((k : ℕ) → k < n → Chosen k → ⊥) → Best n none
-    line : {i : ℕ} → Easiest Chosen height n i → Best n (some i)
+    no_line : ((k : ℕ) → k < n → Chosen k → ⊥) → Best n None
+    line : {i : ℕ} → Easiest Chosen height n i → Best n (Some i)
 
   -- line i is no higher than line k, if that is chosen; and no earlier, if it is as high
   abbrev NoHigher : ℕ → ℕ → Type 0
@@ -48,7 +46,7 @@ module _ (Chosen : ℕ → Type 0) (height : ℕ → ℕ) where
       })
 
   -- line n is chosen, and no line before it is lower
-  newest : (n : ℕ) → Chosen n → ((k : ℕ) → k < n → NoHigher n k) → Best (suc n) (some n)
+  newest : (n : ℕ) → Chosen n → ((k : ℕ) → k < n → NoHigher n k) → Best (suc n) (Some n)
   newest n c lower =
       line {i = n} (record {
         within = omega arith;
@@ -63,7 +61,7 @@ module _ (Chosen : ℕ → Type 0) (height : ℕ → ℕ) where
   taken n c (no_line f) = newest n c (λ k l d. absurd (f k l d))
   taken n c (line {i} b) = at (leb (height n) (height i)) refl
     where
-      at : (t : Bool) → leb (height n) (height i) ≡ t → Best (suc n) (elim t [ true ↦ some n | false ↦ some i ])
+      at : (t : Bool) → leb (height n) (height i) ≡ t → Best (suc n) (elim t [ true ↦ Some n | false ↦ Some i ])
       at true e =
           let lower : height n ≤ height i = leb-true (height n) (height i) e in
           newest n c (λ k l d. omega (arith, lower, b.least k l d))
@@ -91,74 +89,40 @@ module _ (Chosen : ℕ → Type 0) (height : ℕ → ℕ) where
         at b true d = taken n (d.0 refl) b
         at b false d = passed n (refuted d refl) b
 
-    pub easiest_is : (count i : ℕ) → (easiest chosen height count ≡ some i) ↔ Easiest Chosen height count i
+    pub easiest_is : (count i : ℕ) → (easiest chosen height count ≡ Some i) ↔ Easiest Chosen height count i
     easiest_is count i = (λ e. from (subst (Best count) e (best count)), λ b. to b (found count) (best count))
       where
-        from : Best count (some i) → Easiest Chosen height count i
+        from : Best count (Some i) → Easiest Chosen height count i
         from (line b) = b
 
-        to : Easiest Chosen height count i → (o : Option ℕ) → Best count o → o ≡ some i
-        to b none (no_line f) = absurd (f i b.within b.is)
-        to b (some j) (line a) = ap some (easiest_one a b)
+        to : Easiest Chosen height count i → (o : Option ℕ) → Best count o → o ≡ Some i
+        to b None (no_line f) = absurd (f i b.within b.is)
+        to b (Some j) (line a) = ap Some (easiest_one a b)
 
-    pub none_is : (count : ℕ) → (easiest chosen height count ≡ none) ↔ ((n : ℕ) → n < count → Chosen n → ⊥)
+    pub none_is : (count : ℕ) → (easiest chosen height count ≡ None) ↔ ((n : ℕ) → n < count → Chosen n → ⊥)
     none_is count = (λ e. from (subst (Best count) e (best count)), λ f. to f (found count) (best count))
       where
-        from : Best count none → (n : ℕ) → n < count → Chosen n → ⊥
+        from : Best count None → (n : ℕ) → n < count → Chosen n → ⊥
         from (no_line f) = f
 
-        to : ((n : ℕ) → n < count → Chosen n → ⊥) → (o : Option ℕ) → Best count o → o ≡ none
-        to f none b = refl
-        to f (some j) (line a) = absurd (f j a.within a.is)
-
--- Where a number below count stands for a line.
-module _ (count n : ℕ) where
-  pub line_there : n < count → line_below count n ≡ some n
-  unfolding line_below
-  line_there h = rw ((says_lt n count).1 h, line_below)
-
-  pub line_gone : count ≤ n → line_below count n ≡ none
-  unfolding line_below
-  line_gone h = rw (refutes (ltb n count) (says_lt n count) (λ l. omega arith), line_below)
+        to : ((n : ℕ) → n < count → Chosen n → ⊥) → (o : Option ℕ) → Best count o → o ≡ None
+        to f None b = refl
+        to f (Some j) (line a) = absurd (f j a.within a.is)
 
 -- `better`
-module _ (height : ℕ → ℕ) (count best n : ℕ) (within : n < count) where
-  pub better_first : count ≤ best → line_below count n ≡ better height (line_below count best) n
+module _ (height : ℕ → ℕ) (best n : ℕ) where
+  pub better_before : height best < height n → Some best ≡ better height (Some best) n
   unfolding better
-  better_first h = line_there count n within ∙ ap (λ o. better height o n) (sym (line_gone count best h))
+  better_before lower = sym (rw (refutes (leb (height n) (height best)) (says_le (height n) (height best)) (λ l. omega (arith, lower)), better))
 
-  pub better_before : best < count → height best < height n
-      → line_below count best ≡ better height (line_below count best) n
+  pub better_later : height n ≤ height best → Some n ≡ better height (Some best) n
   unfolding better
-  better_before h lower =
-      line_there count best h ∙ sym kept ∙ ap (λ o. better height o n) (sym (line_there count best h))
-    where
-      no : leb (height n) (height best) ≡ false
-      no = refutes (leb (height n) (height best)) (says_le (height n) (height best)) (λ l. omega (arith, lower))
-
-      kept : better height (some best) n ≡ some best
-      kept = rw (no, better)
-
-  pub better_later : best < count → height n ≤ height best
-      → line_below count n ≡ better height (line_below count best) n
-  unfolding better
-  better_later h lower =
-      line_there count n within ∙ sym taken ∙ ap (λ o. better height o n) (sym (line_there count best h))
-    where
-      taken : better height (some best) n ≡ some n
-      taken = rw ((says_le (height n) (height best)).1 lower, better)
+  better_later lower = sym (rw ((says_le (height n) (height best)).1 lower, better))
 
 -- heights that agree on the first count lines
-pub better_same : (f g : ℕ → ℕ) (count best n : ℕ) → ((k : ℕ) → k < count → f k ≡ g k) → n < count
-    → better f (line_below count best) n ≡ better g (line_below count best) n
+pub better_same : (f g : ℕ → ℕ) (count : ℕ) (best : Option ℕ) (n : ℕ) → ((k : ℕ) → k < count → f k ≡ g k)
+    → IfSome best (λ b. b < count) → n < count → better f best n ≡ better g best n
 unfolding better
-better_same f g count best n same within = on (dec_lt best count)
-  where
-    on : Dec (best < count) → better f (line_below count best) n ≡ better g (line_below count best) n
-    on (yes h) =
-        ap (λ o. better f o n) (line_there count best h)
-        ∙ (λ i. elim (leb (same n within i) (same best h i)) [ true ↦ some n | false ↦ some best ])
-        ∙ ap (λ o. better g o n) (sym (line_there count best h))
-    on (no h) =
-        ap (λ o. better f o n) (line_gone count best (omega arith))
-        ∙ ap (λ o. better g o n) (sym (line_gone count best (omega arith)))
+better_same f g count None n same there within = refl
+better_same f g count (Some best) n same there within =
+    λ i. elim (leb (same n within i) (same best there i)) [ true ↦ Some n | false ↦ Some best ]

@@ -1,6 +1,8 @@
 -- Heights of lines that cite earlier lines: each is 0, or one more than the greatest that is cited, and only these
 -- numbers are so; no line is higher than its number.
 -- Assumes nothing.
+use Rattle.std.specs.Prelude.{Ok}
+use Rattle.sheets.specs.Refusals.{counts}
 use mathlib.Core.Path.{◌≡◌, refl, sym, ◌∙◌, ap, subst}
 use mathlib.Core.Logic.{◌↔◌}
 use mathlib.Core.List.{List, [], ◌∷◌, map}
@@ -9,7 +11,6 @@ use native.Mathlib.Decide.{dec_le}
 use native.Mathlib.Omega.{arith}
 use lib.ListN.{length, get_or}
 use Rattle.terms.specs.Lists.{AllBelow}
-use Rattle.sheets.specs.declared.admission.Admission.TheVariants.{Accepted}
 use Rattle.sheets.specs.Layout.{edition_of, lines_in}
 use Rattle.sheets.specs.Lines.{line_of, cited_by, line_at}
 use Rattle.sheets.specs.Admission.{admit_of}
@@ -141,7 +142,7 @@ module _ (edition : ℕ) (lines : List ℕ) (count : ℕ) (citing : CitingLines 
   line_most = height_most cited count cited_earlier
 
 -- the lines of a sheet that admission accepts
-module _ (bytes : List ℕ) (work T C L : ℕ) (accepted : admit_of bytes work ≡ Accepted T C L) where
+module _ (bytes : List ℕ) (work T C L : ℕ) (accepted : admit_of bytes work ≡ Ok (counts T C L)) where
   abbrev height_at : ℕ → ℕ
   height_at = line_height (edition_of bytes) (lines_in bytes T C)
 

@@ -1,19 +1,24 @@
 -- Listed lines that lines which stay use, asked line by line: what one line's answer means, and what the loop through
 -- the lines keeps.
 -- Assumes nothing.
-use mathlib.Core.Path.{◌≡◌, refl, sym, ◌∙◌, ap, subst}
-use mathlib.Core.Logic.{◌⊎◌, inl, inr, ⊎_elim}
+use mathlib.Core.Path.{◌≡◌, refl, sym, ◌∙◌, ap, subst, subst₂}
+use Rattle.std.specs.Prelude.{Option, Some, None, IfSome, MatchOption}
+use Rattle.std.specs.Ordering.{ord_max}
+use Rattle.std.specs.Option.{option_cmp}
+use Rattle.std.proofs.Common.{nat_cmp}
+use Rattle.std.proofs.lemmas.Grind.{common_steps}
+use mathlib.Core.Logic.{◌⊎◌, ⊎_elim}
 use mathlib.Core.Bool.{Bool, true, false, ◌&&◌}
 use mathlib.Core.List.{List}
-use Prim.Native.Nat.{ℕ, zero, suc, ◌+◌, ◌-◌, ◌*◌, ◌≤◌, ◌<◌}
+use Prim.Native.Nat.{ℕ, suc, max, ◌+◌, ◌-◌, ◌*◌, ◌≤◌, ◌<◌}
 use native.Mathlib.Decide.{dec_lt}
 use native.Mathlib.Omega.{arith}
 use native.Mathlib.Numerals.{add-one}
-use lib.Dec.{leb, ltb}
+use lib.Dec.{ltb}
 use lib.ListN.{length, get_or}
 use borrow.Author.Tests.{lt-ltb, le-ltb}
 use Rattle.terms.specs.Decides.{Decides}
-use Rattle.terms.proofs.Tests.{either, says_le, says_lt, refuted, decides_via, ◌&◌}
+use Rattle.terms.proofs.Tests.{either, says_lt, refuted, decides_via, ◌&◌}
 use Rattle.rules.specs.RuleTable.{IsRule, premise_count}
 use Rattle.sheets.specs.declared.lines.Line.{Line}
 use Rattle.sheets.specs.declared.uses.Use.{Use}
@@ -22,7 +27,7 @@ use Rattle.sheets.specs.LineSets.{Rises, is_listed, Listed, last_listed, count_b
 use Rattle.sheets.specs.Numbering.{Numbering}
 use Rattle.sheets.specs.Withdrawal.{Uses}
 use Rattle.sheets.specs.WithdrawalSet.{kept_use, AllLines, KeptUses}
-use Rattle.sheets.specs.ListedUses.{listed_premise, greater, highest_listed, higher_use}
+use Rattle.sheets.specs.ListedUses.{above, listed_premise, greater, highest_listed, higher_use}
 use Rattle.sheets.specs.Citing.{CitesEarlier, CitingLines}
 use Rattle.sheets.proofs.CitingLaws.{premise_within, premises_within}
 use Rattle.sheets.proofs.LineSetLaws.{listed_says, first_least, last_highest, count_here, count_there, new_less}
@@ -52,6 +57,23 @@ module _ (m n : ℕ) where
   unfolding greater
   greater_second h = rw (lt-ltb m n h, greater)
 
+pub max_greater : (m n : ℕ) → max m n ≡ greater m n
+max_greater m n =
+    elim (dec_lt m n) [
+      | yes h ↦ omega (arith, greater_second m n h)
+      | no h ↦ omega (arith, greater_first m n (omega arith))
+    ]
+
+-- the greater of two listed lines, of which no line is below any
+max_above : (o p : Option ℕ) → above (ord_max (option_cmp nat_cmp) o p) ≡ max (above o) (above p)
+max_above None None = omega arith
+max_above None (Some n) = omega arith
+max_above (Some m) None = omega arith
+max_above (Some m) (Some n) = grind (arith, common_steps)
+
+pub greater_above : (o p q : Option ℕ) → q ≡ ord_max (option_cmp nat_cmp) o p → above q ≡ greater (above o) (above p)
+greater_above o p q e = ap above e ∙ max_above o p ∙ max_greater (above o) (above p)
+
 -- a premise that is used and listed, and any other
 module _ (below : List ℕ) (used : Bool) (p : ℕ) where
   pub listed_premise_lem : (used && ltb (get_or below p 0) (get_or below (p + 1) 0)) ≡ true → listed_premise below used p ≡ p + 1
@@ -62,15 +84,24 @@ module _ (below : List ℕ) (used : Bool) (p : ℕ) where
   unfolding listed_premise
   other_premise e = rw (e, listed_premise)
 
--- the higher of two uses
-module _ (u v : Use) where
-  pub higher_first : v.above ≤ u.above → higher_use u v ≡ u
-  unfolding higher_use
-  higher_first h = rw (le-ltb u.above v.above h, higher_use)
+-- one more than the listed line of a use, 0 for none
+abbrev pub above_use : Option Use → ℕ
+above_use None = 0
+above_use (Some u) = suc u.listed
 
-  pub higher_second : u.above < v.above → higher_use u v ≡ v
-  unfolding higher_use
-  higher_second h = rw (lt-ltb u.above v.above h, higher_use)
+-- the higher of two uses
+pub higher_other : (found : Option Use) (v : Use) → above_use found ≤ v.listed → higher_use found v ≡ v
+unfolding higher_use
+higher_other None v h = refl
+higher_other (Some u) v h = rw (lt-ltb u.listed v.listed (omega arith), higher_use)
+
+pub higher_first : (found : Option Use) (v : Use) → v.listed < above_use found → found ≡ Some (higher_use found v)
+unfolding higher_use
+higher_first None v h = absurd (omega arith)
+higher_first (Some u) v h = ap Some (sym (first (le-ltb u.listed v.listed (omega arith))))
+  where
+    first : ltb u.listed v.listed ≡ false → higher_use (Some u) v ≡ u
+    first e = rw (e, higher_use)
 
 -- h is one more than the highest number of which P holds, 0 if it holds of none
 record Above (P : ℕ → Type 0) (h : ℕ) : Type 0 where
@@ -180,17 +211,14 @@ module _ (edition : ℕ) (lines : List ℕ) (count : ℕ) (set : List ℕ) where
     pub lowest : (k : ℕ) → k < p → UsedBy n k → ⊥
 
   -- what is found among the lines that stay whose new numbers are below m
-  pub record FoundBefore (m : ℕ) (found : Use) : Type 0 where
-    pub highest : (n : ℕ) → found.above ≤ n → Listed set n
+  pub record FoundBefore (m : ℕ) (found : Option Use) : Type 0 where
+    pub highest : (n : ℕ) → above_use found ≤ n → Listed set n
         → (k : ℕ) → k < count → new_number set k < m → UsedBy n k → ⊥
-    pub used : (n : ℕ) → found.above ≡ suc n → LowestUser n found.place
-    pub none : found.above ≡ 0 → found.place ≡ count
+    pub used : IfSome found (λ u. LowestUser u.listed u.place)
 
   -- a line with a new number below the first listed one is before it, and cites none that is listed
-  pub found_start : Rises set → CitingLines edition lines count
-      → FoundBefore (get_or set 0 0) (record { above = 0; place = count })
-  found_start rises cites =
-      record { highest = λ n _. before n; used = λ n e. absurd (omega (arith, e)); none = λ e. refl }
+  pub found_start : Rises set → CitingLines edition lines count → FoundBefore (get_or set 0 0) None
+  found_start rises cites = record { highest = λ n _. before n; used = tt }
     where
       before : (n : ℕ) → Listed set n → (k : ℕ) → k < count → new_number set k < get_or set 0 0 → UsedBy n k → ⊥
       before n l k h b (stays, (j, four, used, is)) =
@@ -201,11 +229,11 @@ module _ (edition : ℕ) (lines : List ℕ) (count : ℕ) (set : List ℕ) where
               old_below set (new_number set k) (new_number set k) (λ i m. omega (arith, first_least set rises i m))
               (omega arith)
 
-  module _ (rises : Rises set) (all : AllLines count set) (m : ℕ) (found : Use) (before : FoundBefore m found) where
+  module _ (rises : Rises set) (all : AllLines count set) (m : ℕ) (found : Option Use) (before : FoundBefore m found) where
     -- the line that stays and has the new number m is asked
     module _ (within : m < count - length set) (above : ℕ)
         (asked : Above (λ n. Listed set n × Uses (line_of edition lines (old_number set m)) n) above) where
-      none_more : (n : ℕ) → found.above ≤ n → above ≤ n → Listed set n
+      none_more : (n : ℕ) → above_use found ≤ n → above ≤ n → Listed set n
           → (k : ℕ) → k < count → new_number set k < suc m → UsedBy n k → ⊥
       none_more n f a l k h b u = at (dec_lt (new_number set k) m)
         where
@@ -216,7 +244,7 @@ module _ (edition : ℕ) (lines : List ℕ) (count : ℕ) (set : List ℕ) where
               let here : k ≡ old_number set m = sym (old_new set rises k u.0) ∙ ap (old_number set) same in
               asked.highest n a (l, subst (λ i. Uses (line_of edition lines i) n) here u.1)
 
-      lowest_here : (n : ℕ) → found.above ≤ n → above ≡ suc n → LowestUser n (old_number set m)
+      lowest_here : (n : ℕ) → above_use found ≤ n → above ≡ suc n → LowestUser n (old_number set m)
       lowest_here n f e =
           record { listed = cited.0; within = here; uses = (old_stays set rises m, cited.1); lowest = earlier }
         where
@@ -231,114 +259,112 @@ module _ (edition : ℕ) (lines : List ℕ) (count : ℕ) (set : List ℕ) where
               before.highest n f cited.0 k (omega (arith, here))
               (omega (arith, new_less set rises k (old_number set m) u.0 h, new_old set rises m)) u
 
-      asked_next : FoundBefore (suc m) (higher_use found (record { above = above; place = old_number set m }))
-      asked_next = at (dec_lt found.above above)
+      none_next : above ≡ 0 → FoundBefore (suc m) found
+      none_next e = record { highest = λ n f. none_more n f (omega arith); used = before.used }
+
+      some_next : (listed : ℕ) → above ≡ suc listed
+          → FoundBefore (suc m) (Some (higher_use found (record { listed = listed; place = old_number set m })))
+      some_next listed e = at (dec_lt listed (above_use found))
         where
           here : Use
-          here = record { above = above; place = old_number set m }
+          here = record { listed = listed; place = old_number set m }
 
-          at : Dec (found.above < above) → FoundBefore (suc m) (higher_use found here)
+          at : Dec (listed < above_use found) → FoundBefore (suc m) (Some (higher_use found here))
           at (yes d) =
-              subst (FoundBefore (suc m)) (sym (higher_second found here d))
-              (record {
-                highest = λ n a. none_more n (omega arith) a;
-                used = λ n e. lowest_here n (omega arith) e;
-                none = λ e. absurd (omega arith);
-              })
+              subst (FoundBefore (suc m)) (higher_first found here d)
+              (record { highest = λ n f. none_more n f (omega arith); used = before.used })
           at (no d) =
-              subst (FoundBefore (suc m)) (sym (higher_first found here (omega arith)))
+              subst (λ u. FoundBefore (suc m) (Some u)) (sym (higher_other found here (omega arith)))
               (record {
-                highest = λ n f. none_more n f (omega arith);
-                used = before.used;
-                none = before.none;
+                highest = λ n a. none_more n (omega arith) (omega arith);
+                used = lowest_here listed (omega arith) e;
               })
 
     -- the loop ends behind the last line that stays, or once the last listed line is found used
-    pub found_use : (count - length set ≤ m) ⊎ (last_listed set < found.above)
-        → found.place ≡ kept_use edition lines count set
-    found_use ended = at found.above refl
+    pub found_use : (count - length set ≤ m) ⊎ (last_listed set < above_use found)
+        → MatchOption found (kept_use edition lines count set ≡ count)
+        (λ u. (u.place < count) × (kept_use edition lines count set ≡ u.place))
+    found_use ended = at found highest before.used
       where
-        highest : (n : ℕ) → found.above ≤ n → Listed set n → (k : ℕ) → k < count → UsedBy n k → ⊥
+        highest : (n : ℕ) → above_use found ≤ n → Listed set n → (k : ℕ) → k < count → UsedBy n k → ⊥
         highest n f l k h u =
             ⊎_elim (λ b. before.highest n f l k h (omega (arith, new_within set count rises all k u.0 h)) u)
             (λ b. omega (arith, last_highest set rises n l)) ended
 
-        at : (a : ℕ) → found.above ≡ a → found.place ≡ kept_use edition lines count set
-        at zero e = before.none e ∙ sym (unused_use edition lines count set all (λ n l. highest n (omega arith) l))
-        at (suc n) e =
-            let user = before.used n e in
-            sym (highest_use edition lines count set all n found.place
-            (record {
-              listed = user.listed;
-              within = user.within;
-              uses = user.uses;
-              lowest = user.lowest;
-              highest = λ i h l. highest i (omega arith) l;
-            }))
-
--- the loop's test failed
-pub loop_ended : (m left above last : ℕ) → (ltb m left && leb above last) ≡ false → (left ≤ m) ⊎ (last < above)
-loop_ended m left above last f = at (dec_lt m left) (dec_lt last above)
-  where
-    at : Dec (m < left) → Dec (last < above) → (left ≤ m) ⊎ (last < above)
-    at (no h) _ = inl (omega arith)
-    at (yes h) (yes l) = inr l
-    at (yes h) (no l) = absurd (refuted (says_lt m left & says_le above last) f (h, omega arith))
+        at : (o : Option Use)
+            → ((n : ℕ) → above_use o ≤ n → Listed set n → (k : ℕ) → k < count → UsedBy n k → ⊥)
+            → IfSome o (λ u. LowestUser u.listed u.place)
+            → MatchOption o (kept_use edition lines count set ≡ count)
+            (λ u. (u.place < count) × (kept_use edition lines count set ≡ u.place))
+        at None none _ = unused_use edition lines count set all (λ n l. none n (omega arith) l)
+        at (Some u) none user = (
+          user.within,
+          highest_use edition lines count set all u.listed u.place
+              (record {
+                listed = user.listed;
+                within = user.within;
+                uses = user.uses;
+                lowest = user.lowest;
+                highest = λ i h l. none i (omega arith) l;
+              }),
+        )
 
 -- nothing is listed
 pub none_listed : (edition : ℕ) (lines : List ℕ) (count : ℕ) (set : List ℕ) → AllLines count set → length set ≡ 0
-    → count ≡ kept_use edition lines count set
+    → kept_use edition lines count set ≡ count
 none_listed edition lines count set all e =
-    sym (unused_use edition lines count set all (λ n l. absurd (omega (arith, l.1))))
+    unused_use edition lines count set all (λ n l. absurd (omega (arith, l.1)))
 
--- what `kept_use` requires, and a place at which its loop asks a line
-pub record Asking (edition : ℕ) (lines : List ℕ) (count : ℕ) (set below kept : List ℕ) (m : ℕ) : Type 0 where
+-- what `kept_use` requires, and a place at which its loop asks a line, whose old number is `place`
+pub record Asking (edition : ℕ) (lines : List ℕ) (count : ℕ) (set below kept : List ℕ) (m place : ℕ) : Type 0 where
   pub sheet : (20 * count ≤ length lines) × (count ≤ 1024) × CitingLines edition lines count
   pub numbered : Rises set × AllLines count set × Numbering set count below kept
   pub within : m < count - length set
+  pub place_is : place ≡ get_or kept m 0
 
-module _ {edition : ℕ} {lines : List ℕ} {count : ℕ} {set below kept : List ℕ} {m : ℕ}
-    (asking : Asking edition lines count set below kept m) where
+module _ {edition : ℕ} {lines : List ℕ} {count : ℕ} {set below kept : List ℕ} {m place : ℕ}
+    (asking : Asking edition lines count set below kept m place) where
   -- the line asked is the one that stays and has the new number m
   old_line : old_number set m < count
   old_line = old_within set count asking.numbered.0 asking.numbered.1 m asking.within
 
-  place_old : get_or kept m 0 ≡ old_number set m
+  place_old : place ≡ old_number set m
   place_old =
-      ap (λ i. get_or kept i 0) (sym (new_old set asking.numbered.0 m))
+      asking.place_is ∙ ap (λ i. get_or kept i 0) (sym (new_old set asking.numbered.0 m))
       ∙ asking.numbered.2.numbers (old_number set m) old_line (old_stays set asking.numbered.0 m)
 
-  pub place_within : get_or kept m 0 < count
+  pub place_within : place < count
   place_within = omega (arith, place_old, old_line)
 
-  module _ (line : Line) (read : line ≡ line_of edition lines (get_or kept m 0)) where
-    line_cites : CitesEarlier line (get_or kept m 0)
-    line_cites = subst (λ l. CitesEarlier l (get_or kept m 0)) (sym read) (asking.sheet.2 (get_or kept m 0) place_within)
+  module _ (line : Line) (read : line ≡ line_of edition lines place) where
+    line_cites : CitesEarlier line place
+    line_cites = subst (λ l. CitesEarlier l place) (sym read) (asking.sheet.2 place place_within)
 
     pub rule_known_lem : IsRule line.rule
     rule_known_lem = line_cites.rule
 
     pub premises_few : (line.p0 < 1024) × (line.p1 < 1024) × (line.p2 < 1024) × (line.p3 < 1024)
     premises_few =
-        let within : get_or kept m 0 ≤ 1024 = omega (arith, place_within, asking.sheet.1) in
-        premises_within line (get_or kept m 0) line_cites 1024 (omega arith) within
+        let within : place ≤ 1024 = omega (arith, place_within, asking.sheet.1) in
+        premises_within line place line_cites 1024 (omega arith) within
 
-    pub found_next : (found next : Use) (above : ℕ) → above ≡ highest_listed below line
-        → next ≡ higher_use found (record { above = above; place = get_or kept m 0 })
-        → FoundBefore edition lines count set m found → FoundBefore edition lines count set (m + 1) next
-    found_next found next above asked higher before = rw (add-one, higher, asked, place_old) next_found
-      where
-        here : line ≡ line_of edition lines (old_number set m)
-        here = read ∙ ap (line_of edition lines) place_old
+    module _ {found : Option Use} (before : FoundBefore edition lines count set m found) (listed : Option ℕ)
+        (asked : above listed ≡ highest_listed below line) where
+      meant : Above (λ n. Listed set n × Uses (line_of edition lines (old_number set m)) n) (above listed)
+      meant =
+          subst₂ (λ l a. Above (λ n. Listed set n × Uses l n) a) (read ∙ ap (line_of edition lines) place_old) (sym asked)
+          (highest_above set asking.numbered.0 count below asking.numbered.2.counts line place place_within line_cites)
 
-        meant : Above (λ n. Listed set n × Uses line n) (highest_listed below line)
-        meant =
-            highest_above set asking.numbered.0 count below asking.numbered.2.counts line (get_or kept m 0)
-            place_within line_cites
+      pub none_found : listed ≡ None → FoundBefore edition lines count set (m + 1) found
+      none_found e =
+          rw (add-one)
+          (none_next edition lines count set asking.numbered.0 asking.numbered.1 m found before asking.within
+          (above listed) meant (ap above e))
 
-        next_found : FoundBefore edition lines count set (suc m)
-            (higher_use found (record { above = highest_listed below line; place = old_number set m }))
-        next_found =
-            asked_next edition lines count set asking.numbered.0 asking.numbered.1 m found before
-            asking.within (highest_listed below line)
-            (subst (λ l. Above (λ n. Listed set n × Uses l n) (highest_listed below line)) here meant)
+      pub one_found : (n : ℕ) → listed ≡ Some n → (next : Use)
+          → next ≡ higher_use found (record { listed = n; place = place })
+          → FoundBefore edition lines count set (m + 1) (Some next)
+      one_found n e next higher =
+          rw (add-one, higher, place_old)
+          (some_next edition lines count set asking.numbered.0 asking.numbered.1 m found before asking.within
+          (above listed) meant n (ap above e ∙ add-one n))

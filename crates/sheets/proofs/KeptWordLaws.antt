@@ -184,15 +184,6 @@ module _ (b : List ℕ) (start : ℕ) (below : List ℕ) (k j : ℕ) {w : ℕ} (
   unfolding renumbered_word
   line_premise h = sym (ap (renumbered below j) (sym read) ∙ renumbered_premise below j w h)
 
--- a premise that is read from a line that stays
-module _ {b below : List ℕ} {start k : ℕ} (line : LineKept b start below k) {j w : ℕ}
-    (read : w ≡ word_at b (start + (10 * k + j))) (low : 6 ≤ j) (high : j < 10) where
-  pub premise_numbered : w ≤ 1024
-  premise_numbered = subst (λ p. p ≤ 1024) (sym read) (line.premises j low high)
-
-  pub premise_lowered : get_or below w 0 ≤ w
-  premise_lowered = subst (λ p. get_or below p 0 ≤ p) (sym read) (line.lowered j low high)
-
 -- the premises of a good sheet's lines are earlier lines, or 0 where they are unused
 module _ {b : List ℕ} {T C L : ℕ} (g : Good b T C L) where
   premise_earlier : (k j : ℕ) → k < L → 6 ≤ j → j < 10 → word_at b (lines_start T C + (10 * k + j)) ≤ k

@@ -1,5 +1,10 @@
 -- Numbers 1 to 4 answer for their declarative reading.
 -- Assumes nothing.
+use Rattle.std.specs.Prelude.{Result, Ok, Err}
+use Rattle.sheets.specs.declared.refusals.Counts.{Counts}
+use Rattle.sheets.specs.declared.refusals.Fault.{Fault}
+use Rattle.sheets.specs.declared.refusals.Fault.TheVariants.{Length, Mark, Counts as CountsFault, WorkBuffer}
+use Rattle.sheets.specs.Refusals.{counts}
 use mathlib.Core.Path.{◌≡◌, refl, sym, ◌∙◌, ap, subst}
 use mathlib.Core.Logic.{◌↔◌, ◌⊎◌, inl, inr}
 use mathlib.Core.Bool.{Bool, true, false}
@@ -15,8 +20,6 @@ use Rattle.terms.specs.Words.{word_at}
 use Rattle.terms.proofs.Tests.{either, refutes, says_le, says_eq, refuted, ◌&◌}
 use Rattle.rules.proofs.EditionLaws.{says_edition}
 use Rattle.sheets.specs.declared.layout.Trailer.{Trailer}
-use Rattle.sheets.specs.declared.layout.Layout.{Layout}
-use Rattle.sheets.specs.declared.layout.Layout.TheVariants.{Counted, Wrong}
 use Rattle.sheets.specs.Layout.{trailer_word, trailer_of, edition_of, distance_to_lines, distance_to_contexts, distance_to_terms, length_fits, mark_fits, limits_fit, distances_fit, counts_fit, trailer_answer, layout_of}
 use Rattle.sheets.specs.GoodLayout.{trailer_for, LaidOut, RightLength, Marked, LayoutFault, wrong_length, not_marked, disagreeing, short_work}
 
@@ -96,31 +99,31 @@ module _ (bytes : List ℕ) where
 
 -- the ways out of numbers 2, 3 and 4
 module _ (t : Trailer) (n work : ℕ) where
-  pub trailer_2 : mark_fits t ≡ false → trailer_answer t n work ≡ Wrong 2
+  pub trailer_2 : mark_fits t ≡ false → trailer_answer t n work ≡ Err Mark
   unfolding trailer_answer
   trailer_2 e = rw (e, trailer_answer)
 
   module _ (m : mark_fits t ≡ true) where
-    pub trailer_3 : counts_fit t n ≡ false → trailer_answer t n work ≡ Wrong 3
+    pub trailer_3 : counts_fit t n ≡ false → trailer_answer t n work ≡ Err CountsFault
     unfolding trailer_answer
     trailer_3 e = rw (m, e, trailer_answer)
 
     module _ (l : counts_fit t n ≡ true) where
-      pub trailer_4 : work < t.terms → trailer_answer t n work ≡ Wrong 4
+      pub trailer_4 : work < t.terms → trailer_answer t n work ≡ Err WorkBuffer
       unfolding trailer_answer
       trailer_4 h = rw (m, l, lt-leb t.terms work h, trailer_answer)
 
-      pub trailer_counted : t.terms ≤ work → trailer_answer t n work ≡ Counted t.terms t.contexts t.lines
+      pub trailer_counted : t.terms ≤ work → trailer_answer t n work ≡ Ok (counts t.terms t.contexts t.lines)
       unfolding trailer_answer
       trailer_counted h = rw (m, l, le-leb t.terms work h, trailer_answer)
 
 module _ (bytes : List ℕ) (work : ℕ) where
-  pub layout_1 : length_fits (length bytes) ≡ false → layout_of bytes work ≡ Wrong 1
+  pub layout_1 : length_fits (length bytes) ≡ false → layout_of bytes work ≡ Err Length
   unfolding layout_of
   layout_1 e = rw (e, layout_of)
 
   -- where t is the trailer and a what it answers
-  pub layout_read : (t : Trailer) (a : Layout) → length_fits (length bytes) ≡ true → t ≡ trailer_of bytes → a ≡ trailer_answer t (length bytes) work → a ≡ layout_of bytes work
+  pub layout_read : (t : Trailer) (a : Result Counts Fault) → length_fits (length bytes) ≡ true → t ≡ trailer_of bytes → a ≡ trailer_answer t (length bytes) work → a ≡ layout_of bytes work
   unfolding layout_of
   layout_read t a h e f = f ∙ ap (λ u. trailer_answer u (length bytes) work) e ∙ sym (rw (h, layout_of))
 
@@ -164,15 +167,15 @@ module _ (bytes : List ℕ) where
 
   module _ (work : ℕ) where
     -- what an answer means
-    pub data LayoutMeans : Layout → Type 0 where
-      counted : {T C L : ℕ} → LaidOut bytes T C L → T ≤ work → LayoutMeans (Counted T C L)
-      wrong : {number : ℕ} → LayoutFault bytes work number → LayoutMeans (Wrong number)
+    pub data LayoutMeans : Result Counts Fault → Type 0 where
+      counted : {T C L : ℕ} → LaidOut bytes T C L → T ≤ work → LayoutMeans (Ok (counts T C L))
+      wrong : {fault : Fault} → LayoutFault bytes work fault → LayoutMeans (Err fault)
 
     abbrev Either : Bool → Type 0
     Either b = (b ≡ true) ⊎ (b ≡ false)
 
     module _ (h : length_fits (length bytes) ≡ true) where
-      means : {A : Layout} → trailer_answer (trailer_of bytes) (length bytes) work ≡ A → LayoutMeans A → LayoutMeans (layout_of bytes work)
+      means : {A : Result Counts Fault} → trailer_answer (trailer_of bytes) (length bytes) work ≡ A → LayoutMeans A → LayoutMeans (layout_of bytes work)
       means e a = subst LayoutMeans (sym (layout_rest bytes work h ∙ e)) a
 
       module _ (m : mark_fits (trailer_of bytes) ≡ true) where
@@ -204,32 +207,32 @@ module _ (bytes : List ℕ) where
     layout_means = at_length (either _)
 
     -- the counts are answered exactly if the sheet is laid out with them and the work buffer has that many words
-    pub counted_is : (T C L : ℕ) → (layout_of bytes work ≡ Counted T C L) ↔ (LaidOut bytes T C L × (T ≤ work))
+    pub counted_is : (T C L : ℕ) → (layout_of bytes work ≡ Ok (counts T C L)) ↔ (LaidOut bytes T C L × (T ≤ work))
     unfolding trailer_for
     counted_is T C L = (λ e. from (subst LayoutMeans e layout_means), λ h. to h.0 h.1)
       where
-        from : LayoutMeans (Counted T C L) → LaidOut bytes T C L × (T ≤ work)
+        from : LayoutMeans (Ok (counts T C L)) → LaidOut bytes T C L × (T ≤ work)
         from (counted h k) = (h, k)
 
-        to : LaidOut bytes T C L → T ≤ work → layout_of bytes work ≡ Counted T C L
+        to : LaidOut bytes T C L → T ≤ work → layout_of bytes work ≡ Ok (counts T C L)
         to h k =
             let p = laid_passes T C L h in
             layout_rest bytes work ((length_says _).1 p.0)
             ∙ trailer_counted _ _ _ ((mark_says _).1 p.1) ((counts_say _ _).1 (p.2, p.3)) (subst (λ t. t.terms ≤ work) (sym h.trailer) k)
-            ∙ ap (λ t. Counted t.terms t.contexts t.lines) h.trailer
+            ∙ ap (λ t. Ok (counts t.terms t.contexts t.lines)) h.trailer
 
-    -- and a number exactly if its check is the first to fail
-    pub wrong_is : (number : ℕ) → (layout_of bytes work ≡ Wrong number) ↔ LayoutFault bytes work number
+    -- and a fault exactly if its check is the first to fail
+    pub wrong_is : (fault : Fault) → (layout_of bytes work ≡ Err fault) ↔ LayoutFault bytes work fault
     unfolding trailer_for
-    wrong_is number = (λ e. from (subst LayoutMeans e layout_means), to)
+    wrong_is fault = (λ e. from (subst LayoutMeans e layout_means), to)
       where
-        from : {k : ℕ} → LayoutMeans (Wrong k) → LayoutFault bytes work k
+        from : {f : Fault} → LayoutMeans (Err f) → LayoutFault bytes work f
         from (wrong f) = f
 
-        disagree : Marked (trailer_of bytes) → ((T C L : ℕ) → LaidOut bytes T C L → ⊥) → trailer_answer (trailer_of bytes) (length bytes) work ≡ Wrong 3
+        disagree : Marked (trailer_of bytes) → ((T C L : ℕ) → LaidOut bytes T C L → ⊥) → trailer_answer (trailer_of bytes) (length bytes) work ≡ Err CountsFault
         disagree m f = trailer_3 _ _ _ ((mark_says _).1 m) (refutes _ (counts_say _ _) (λ c. f _ _ _ (passes_laid m c.0 c.1)))
 
-        to : {k : ℕ} → LayoutFault bytes work k → layout_of bytes work ≡ Wrong k
+        to : {f : Fault} → LayoutFault bytes work f → layout_of bytes work ≡ Err f
         to (wrong_length f) = layout_1 bytes work (refutes _ (length_says _) f)
         to (not_marked r f) = layout_rest bytes work ((length_says _).1 r) ∙ trailer_2 _ _ _ (refutes _ (mark_says _) f)
         to (disagreeing r m f) = layout_rest bytes work ((length_says _).1 r) ∙ disagree m f

@@ -20,6 +20,7 @@ pub mod SheetWithout
 pub mod WithdrawalLaws
 pub mod ListedLaws
 pub mod FillingLaws
+pub mod GoodSheetLaws
 pub mod HeightArrayLaws
 pub mod MotiveLineLaws
 pub mod ConvertedWordLaws
@@ -35,6 +36,7 @@ pub mod LineSetLaws
 pub mod NumberingLaws
 pub mod UseLaws
 pub mod PlaceLaws
+pub mod RefusalLaws
 pub mod LinesWithout
 pub mod SetLaws
 pub mod OneLineLaws
@@ -45,4 +47,3 @@ pub mod LinesAwayLaws
 pub mod KeptWordLaws
 pub mod SetOutputLaws
 pub mod ConversionOutputLaws
-pub mod WalkPlaces

@@ -1,5 +1,9 @@
 -- What `line_fits` and `check_lines` answer, each way out, from what their callees answer.
 -- Assumes nothing.
+use Rattle.std.specs.Prelude.{Ok}
+use Rattle.sheets.specs.declared.refusals.Fault.{Fault}
+use Rattle.sheets.specs.declared.refusals.Fault.TheVariants.{Numbers, NoInstance}
+use Rattle.sheets.specs.Refusals.{refused}
 use mathlib.Core.Path.{◌≡◌, refl, sym, ◌∙◌, ap, subst, subst₂}
 use mathlib.Core.Logic.{◌⊎◌, inl, inr}
 use mathlib.Core.Bool.{Bool, true, false}
@@ -14,14 +18,13 @@ use Rattle.terms.specs.Decides.{Decides}
 use Rattle.terms.proofs.Tests.{refuted, decides_via}
 use Rattle.terms.proofs.Shape.{below_or_last}
 use Rattle.terms.proofs.SearchLaws.{Ahead, ahead_start, ahead_end, ahead_ends, ahead_goes, good_goes, bad_ends}
-use Rattle.rules.specs.RuleTable.{rule_table, IsRule, premise_count}
+use Rattle.rules.specs.RuleTable.{IsRule, premise_count}
 use Rattle.rules.specs.Contexts.{ContextsInTable}
 use Rattle.rules.specs.Stated.{Numbered, AllNumbered, used_premises, Follows}
 use Rattle.rules.specs.RuleChecks.{LineInTables, JudgmentsInTables}
 use Rattle.rules.specs.declared.judgments.LineJudgment.{LineJudgment}
 use Rattle.rules.proofs.ArmLaws.{numbered_taken}
 use Rattle.sheets.specs.declared.lines.Line.{Line}
-use Rattle.sheets.specs.declared.lines.LinesAnswer.TheVariants.{NoFault, Faulty}
 use Rattle.sheets.specs.Layout.{edition_of, contexts_in, lines_in}
 use Rattle.sheets.specs.Lines.{line_of, judgment_of, premises_of, line_at, rule_fits, numbers_fit, line_fits, LineFollows, line_step, check_lines}
 use Rattle.sheets.specs.Good.{WellFormedTables, GoodBefore}
@@ -44,39 +47,33 @@ module _ (l : Line) (n T C : ℕ) (r : Bool) (e : r ≡ rule_fits l) where
   rule_known_lem h = ((rule_says l n T C).0 (sym e ∙ h)).0
 
 -- where there are no lines
-pub no_lines : (bytes : List ℕ) (T C count : ℕ) → count ≡ 0 → NoFault ≡ check_lines bytes T C count
+pub no_lines : (bytes : List ℕ) (T C count : ℕ) → count ≡ 0 → Ok tt ≡ check_lines bytes T C count
 unfolding check_lines search_from
 no_lines bytes T C count e = sym (ap (check_lines bytes T C) e)
 
--- `check_lines`, which reads the lines in the sheet's edition and makes the rule table once: before line n the check of
--- the lines ahead answers for the whole
+-- `check_lines`, which reads the lines in the sheet's edition: before line n the check of the lines ahead answers for the
+-- whole
 module _ (bytes : List ℕ) (T C count : ℕ) (tables : WellFormedTables bytes T C count) where
-  pub record Walked (edition : ℕ) (table lines : List ℕ) (n : ℕ) : Type 0 where
+  pub record Walked (edition : ℕ) (lines : List ℕ) (n : ℕ) : Type 0 where
     pub own : edition ≡ edition_of bytes
-    pub made : table ≡ rule_table
     pub part : lines ≡ lines_in bytes T C
     pub before : (k : ℕ) → k < n → GoodLine bytes T C k
-    pub ahead : Ahead (λ k _. line_step bytes T C k) (λ _. NoFault) count (check_lines bytes T C count) n tt
+    pub ahead : Ahead (λ k _. line_step bytes T C k) (λ _. Ok tt) count (check_lines bytes T C count) n tt
 
-  pub walked_start : {edition : ℕ} {table : List ℕ} → edition ≡ edition_of bytes → table ≡ rule_table
-      → Walked edition table (take (length bytes - (10 * T + 4 * C)) (drop (10 * T + 4 * C) bytes)) 0
+  pub walked_start : {edition : ℕ} → edition ≡ edition_of bytes
+      → Walked edition (take (length bytes - (10 * T + 4 * C)) (drop (10 * T + 4 * C) bytes)) 0
   unfolding lines_in check_lines
-  walked_start own made =
+  walked_start own =
       record {
         own = own;
-        made = made;
         part = part_to_end bytes (10 * T + 4 * C);
         before = λ k h. absurd (omega arith);
         ahead = ahead_start count (omega arith) refl;
       }
 
-  module _ {edition : ℕ} {table lines : List ℕ} {n : ℕ} (at : Walked edition table lines n) where
-    pub walked_end : count ≤ n → NoFault ≡ check_lines bytes T C count
+  module _ {edition : ℕ} {lines : List ℕ} {n : ℕ} (at : Walked edition lines n) where
+    pub walked_end : count ≤ n → Ok tt ≡ check_lines bytes T C count
     walked_end h = ahead_end at.ahead h
-
-    pub line_whole : n < count → 20 * n + 20 ≤ length lines
-    unfolding lines_in
-    line_whole h = omega (arith, tables.laid.long, ap length at.part, length-drop (10 * T + 4 * C) bytes)
 
     -- l is line n, and f what number 9 answers
     module _ (h : n < count) (l : Line) (e : l ≡ line_of edition lines n) (f : Bool) (g : f ≡ line_fits l n T C) where
@@ -87,30 +84,28 @@ module _ (bytes : List ℕ) (T C count : ℕ) (tables : WellFormedTables bytes T
       ok_says : Decides f (LineOk (line_at bytes T C n) n T C)
       ok_says = subst₂ (λ b m. Decides b (LineOk m n T C)) (sym g) is_line (line_says l n T C)
 
-      fault : (number : ℕ) → LineFault bytes T C n number → Faulty number n ≡ check_lines bytes T C count
-      fault number x = ahead_ends at.ahead h (bad_ends (lines_tell bytes T C) n (Faulty number n) (number, refl, x))
+      faulty : (fault : Fault) → LineFault bytes T C n fault → refused fault n ≡ check_lines bytes T C count
+      faulty fault x = ahead_ends at.ahead h (bad_ends (lines_tell bytes T C) n (refused fault n) (fault, refl, x))
 
-      pub walked_9 : f ≡ false → Faulty 9 n ≡ check_lines bytes T C count
-      walked_9 k = fault 9 (misfit (refuted ok_says k))
+      pub walked_9 : f ≡ false → refused Numbers n ≡ check_lines bytes T C count
+      walked_9 k = faulty Numbers (misfit (refuted ok_says k))
 
       module _ (k : f ≡ true) where
-        pub asked : (table ≡ rule_table)
-            × ((edition ≡ edition_of bytes) × (GoodBefore bytes T C n × (l ≡ line_at bytes T C n) × LineOk l n T C))
-        asked = (at.made, (at.own, (before, is_line, (line_says l n T C).0 (sym g ∙ k))))
+        pub asked : (edition ≡ edition_of bytes) × (GoodBefore bytes T C n × (l ≡ line_at bytes T C n) × LineOk l n T C)
+        asked = (at.own, (before, is_line, (line_says l n T C).0 (sym g ∙ k)))
           where
             before : GoodBefore bytes T C n
             before = record { count = count; within = h; tables = tables; before = at.before }
 
         -- b is what number 10 answers
         module _ (b : Bool) (d : Decides b (LineFollows bytes T C n)) where
-          pub walked_10 : b ≡ false → Faulty 10 n ≡ check_lines bytes T C count
-          walked_10 z = fault 10 (no_instance (ok_says.0 k) (refuted d z))
+          pub walked_10 : b ≡ false → refused NoInstance n ≡ check_lines bytes T C count
+          walked_10 z = faulty NoInstance (no_instance (ok_says.0 k) (refuted d z))
 
-          pub walked_next : b ≡ true → Walked edition table lines (n + 1)
+          pub walked_next : b ≡ true → Walked edition lines (n + 1)
           walked_next z =
               record {
                 own = at.own;
-                made = at.made;
                 part = at.part;
                 before = λ m low. below_or_last (GoodLine bytes T C) n m (omega arith) (at.before m) good;
                 ahead = ahead_goes at.ahead h (good_goes (lines_tell bytes T C) n good);

@@ -1,5 +1,10 @@
 -- Numbers 9 and 10 over all lines answer for their declarative reading.
 -- Assumes nothing.
+use Rattle.std.specs.Prelude.{Result, Ok}
+use Rattle.sheets.specs.declared.refusals.Fault.{Fault}
+use Rattle.sheets.specs.declared.refusals.Fault.TheVariants.{Numbers, NoInstance}
+use Rattle.sheets.specs.declared.refusals.Refusal.{Refusal}
+use Rattle.sheets.specs.Refusals.{refusal, refused}
 use mathlib.Core.Path.{◌≡◌, refl, sym, ◌∙◌, ap, subst₂}
 use mathlib.Core.Logic.{◌↔◌}
 use mathlib.Core.Bool.{Bool, true, false}
@@ -15,8 +20,6 @@ use Rattle.rules.specs.RuleTable.{premise_count}
 use Rattle.rules.specs.Instance.{Instance}
 use Rattle.rules.specs.Stated.{stated, used_premises, Follows}
 use Rattle.rules.specs.declared.judgments.LineJudgment.{LineJudgment}
-use Rattle.sheets.specs.declared.lines.LinesAnswer.{LinesAnswer}
-use Rattle.sheets.specs.declared.lines.LinesAnswer.TheVariants.{NoFault, Faulty}
 use Rattle.sheets.specs.Layout.{contexts_in}
 use Rattle.sheets.specs.Lines.{judgment_of, premises_of, cited_by, stated_at, line_at, line_fits, LineFollows, line_follows?, line_step, check_lines}
 use Rattle.sheets.specs.GoodLines.{LineOk, GoodLine, LineFault, misfit, no_instance, FirstFaultyLine}
@@ -45,14 +48,14 @@ module _ (bytes : List ℕ) (T C : ℕ) where
       (ap (map say) (take-map read (premise_count l.rule) (premises_of l)) ∙ map-map read say (take (premise_count l.rule) (premises_of l)))
 
   -- the answer for line n is one of its faults
-  abbrev pub FaultAt : ℕ → LinesAnswer → Type 0
-  FaultAt n a = (number : ℕ) × (a ≡ Faulty number n) × LineFault bytes T C n number
+  abbrev pub FaultAt : ℕ → Result (Unit {0}) Refusal → Type 0
+  FaultAt n a = (fault : Fault) × (a ≡ refused fault n) × LineFault bytes T C n fault
 
-  fault_free : (n number : ℕ) → GoodLine bytes T C n → LineFault bytes T C n number → ⊥
-  fault_free n number g (misfit bad) = bad g.ok
-  fault_free n number g (no_instance ok q) = q g.follows
+  fault_free : (n : ℕ) (fault : Fault) → GoodLine bytes T C n → LineFault bytes T C n fault → ⊥
+  fault_free n fault g (misfit bad) = bad g.ok
+  fault_free n fault g (no_instance ok q) = q g.follows
 
-  one_fault : (n a b : ℕ) → LineFault bytes T C n a → LineFault bytes T C n b → a ≡ b
+  one_fault : (n : ℕ) (a b : Fault) → LineFault bytes T C n a → LineFault bytes T C n b → a ≡ b
   one_fault n a b (misfit bad) (misfit _) = refl
   one_fault n a b (misfit bad) (no_instance ok _) = absurd (bad ok)
   one_fault n a b (no_instance ok _) (misfit bad) = absurd (bad ok)
@@ -64,54 +67,55 @@ module _ (bytes : List ℕ) (T C : ℕ) where
       record {
         tells = λ n. nine n (line_fits (line_at bytes T C n) n T C) (line_says _ n T C);
         apart = λ n a g f. fault_free n f.0 g f.2;
-        one = λ n a b f g. f.1 ∙ ap (λ m. Faulty m n) (one_fault n f.0 g.0 f.2 g.2) ∙ sym g.1;
+        one = λ n a b f g. f.1 ∙ ap (λ k. refused k n) (one_fault n f.0 g.0 f.2 g.2) ∙ sym g.1;
       }
     where
       ten : (n : ℕ) → LineOk (line_at bytes T C n) n T C → (d : Dec (LineFollows bytes T C n))
           → After {S = Unit {0}} (FaultAt n) (λ _. GoodLine bytes T C n)
-          (elim d [ no _ ↦ ends (Faulty 10 n) | yes _ ↦ goes tt ])
+          (elim d [ no _ ↦ ends (refused NoInstance n) | yes _ ↦ goes tt ])
       ten n ok (yes p) = record { ok = ok; follows = p }
-      ten n ok (no q) = (10, refl, no_instance ok q)
+      ten n ok (no q) = (NoInstance, refl, no_instance ok q)
 
       nine : (n : ℕ) (b : Bool) → Decides b (LineOk (line_at bytes T C n) n T C)
           → After {S = Unit {0}} (FaultAt n) (λ _. GoodLine bytes T C n)
           (elim b [
-            | false ↦ ends (Faulty 9 n)
-            | true ↦ elim (line_follows? bytes T C n) [ no _ ↦ ends (Faulty 10 n) | yes _ ↦ goes tt ]
+            | false ↦ ends (refused Numbers n)
+            | true ↦ elim (line_follows? bytes T C n) [ no _ ↦ ends (refused NoInstance n) | yes _ ↦ goes tt ]
           ])
       nine n true d = ten n (d.0 refl) (line_follows? bytes T C n)
-      nine n false d = (9, refl, misfit (refuted d refl))
+      nine n false d = (Numbers, refl, misfit (refuted d refl))
 
-  means : (count : ℕ) (a : LinesAnswer)
-      → (check_lines bytes T C count ≡ a) ↔ Answers (GoodLine bytes T C) FaultAt NoFault 0 count a
+  means : (count : ℕ) (a : Result (Unit {0}) Refusal)
+      → (check_lines bytes T C count ≡ a) ↔ Answers (GoodLine bytes T C) FaultAt (Ok tt) 0 count a
   unfolding check_lines
-  means count = search_means lines_tell NoFault count 0 count (omega arith)
+  means count = search_means lines_tell (Ok tt) count 0 count (omega arith)
 
   -- no fault exactly if every line keeps the layout and follows
-  pub lines_faultless : (count : ℕ) → (check_lines bytes T C count ≡ NoFault) ↔ ((n : ℕ) → n < count → GoodLine bytes T C n)
+  pub lines_faultless : (count : ℕ) → (check_lines bytes T C count ≡ Ok tt) ↔ ((n : ℕ) → n < count → GoodLine bytes T C n)
   lines_faultless count =
-      (λ e. from ((means count NoFault).0 e), λ all. (means count NoFault).1 (passes (λ n low high. all n high) refl))
+      (λ e. from ((means count (Ok tt)).0 e), λ all. (means count (Ok tt)).1 (passes (λ n low high. all n high) refl))
     where
-      from : Answers (GoodLine bytes T C) FaultAt NoFault 0 count NoFault → (n : ℕ) → n < count → GoodLine bytes T C n
+      from : Answers (GoodLine bytes T C) FaultAt (Ok tt) 0 count (Ok tt) → (n : ℕ) → n < count → GoodLine bytes T C n
       from (stops p low high before f) n h = clash (cc f.1)
       from (passes all e) n h = all n (omega arith) h
 
   -- and otherwise the first line that fails
-  pub lines_faulty : (count number place : ℕ) → (check_lines bytes T C count ≡ Faulty number place) ↔ FirstFaultyLine bytes T C count number place
-  lines_faulty count number place = (
-    λ e. from ((means count (Faulty number place)).0 e),
+  pub lines_faulty : (count : ℕ) (fault : Fault) (place : ℕ) → (check_lines bytes T C count ≡ refused fault place) ↔ FirstFaultyLine bytes T C count fault place
+  lines_faulty count fault place = (
+    λ e. from ((means count (refused fault place)).0 e),
     λ f.
-        (means count (Faulty number place)).1
-        (stops place (omega arith) f.within (λ n low high. f.before n high) (number, refl, f.fault)),
+        (means count (refused fault place)).1
+        (stops place (omega arith) f.within (λ n low high. f.before n high) (fault, refl, f.wrong)),
   )
     where
-      from : Answers (GoodLine bytes T C) FaultAt NoFault 0 count (Faulty number place)
-          → FirstFaultyLine bytes T C count number place
+      from : Answers (GoodLine bytes T C) FaultAt (Ok tt) 0 count (refused fault place)
+          → FirstFaultyLine bytes T C count fault place
       from (stops p low high before f) =
-          let same : p ≡ place = cc f.1 in
+          let same : ◌≡◌ {A = Refusal} (refusal f.0 p) (refusal fault place) = cc f.1 in
+          let there : p ≡ place = ap (λ r. r.place) same in
           record {
             within = omega arith;
             before = λ n h. before n (omega arith) (omega arith);
-            fault = subst₂ (LineFault bytes T C) same (cc f.1) f.2;
+            wrong = subst₂ (LineFault bytes T C) there (ap (λ r. r.fault) same) f.2;
           }
       from (passes all e) = clash cc

@@ -3,15 +3,17 @@
 -- Assumes nothing.
 use mathlib.Core.Path.{◌≡◌, refl, sym, ◌∙◌, ap, subst}
 use mathlib.Core.Logic.{◌↔◌, ◌⊎◌, inl, inr, ⊎_elim}
-use mathlib.Core.Bool.{true, false, false≢true}
+use mathlib.Core.Bool.{Bool, true, false, false≢true}
 use mathlib.Core.List.{List, [], ◌∷◌}
 use Prim.Native.Nat.{ℕ, zero, suc, ◌+◌, ◌-◌, ◌≤◌, ◌<◌}
 use native.Mathlib.Decide.{dec_lt}
 use native.Mathlib.Omega.{arith}
 use lib.ListN.{length, get_or}
-use borrow.Author.Tests.{lt-ltb, le-ltb}
+use lib.Dec.{ltb}
+use borrow.Author.Tests.{lt-ltb, le-ltb, ltb-true}
+use Rattle.std.specs.List.{IsAllAdjacentAnswer}
 use Rattle.terms.specs.Decides.{Decides}
-use Rattle.terms.proofs.Tests.{says_le, says_eq, says_no, decides_either, decides_via}
+use Rattle.terms.proofs.Tests.{says_le, says_eq, says_no, refutes, decides_either, decides_via}
 use Rattle.terms.proofs.SearchLaws.{stops, passes, search_means, FirstOf, first_tells}
 use Rattle.sheets.specs.LineSets.{rises, Rises, is_listed, Listed, Stays, last_listed, count_below, new_number}
 use Rattle.sheets.specs.LineSets.{number_before, old_number}
@@ -79,6 +81,12 @@ module _ (set : List ℕ) where
       decides_via (never_falls, λ r. passes (λ i low high f. omega (arith, r i (omega arith))) refl)
       (search_means (first_tells Falls (λ _. false) (λ i. says_le (get_or set (i + 1) 0) (get_or set i 0)))
       true (length set - 1) 0 (length set - 1) (omega arith) true)
+
+-- what the comparison of each number with the next answers
+pub rises_sorted : (set : List ℕ) (r : Bool) → IsAllAdjacentAnswer (λ m n b. b ≡ ltb m n) set r → r ≡ rises set
+rises_sorted set true less = sym ((rises_says set).1 (λ i h. ltb-true _ _ (sym (less i 0 h))))
+rises_sorted set false (i, h, more) =
+    sym (refutes (rises set) (rises_says set) (λ r. false≢true (more 0 ∙ lt-ltb _ _ (r i h))))
 
 -- a number at a lower place is lower
 rises_between : (set : List ℕ) → Rises set → (i j : ℕ) → i < j → j < length set → get_or set i 0 < get_or set j 0

@@ -1,21 +1,24 @@
 -- The lines that give the motives of others, and the lines that have none: what the searches by definition answer, and
 -- that the numbers of motives find the same.
 -- Assumes nothing.
-use mathlib.Core.Path.{◌≡◌, refl, sym, ◌∙◌, ap, subst, subst₂}
+use mathlib.Core.Path.{◌≡◌, refl, sym, ◌∙◌, ap, subst}
 use mathlib.Core.Logic.{◌↔◌, inl, ⊎_elim}
 use mathlib.Core.Bool.{Bool, true, false, ◌&&◌}
 use mathlib.Core.List.{List, [], ◌∷◌}
-use Prim.Native.Nat.{ℕ, ◌+◌, ◌-◌, ◌*◌, ◌≤◌, ◌<◌}
+use Prim.Native.Nat.{ℕ, zero, suc, ◌+◌, ◌≤◌, ◌<◌}
 use native.Mathlib.Omega.{arith}
 use lib.Dec.{leb, eqb}
-use lib.ListN.{length, get_or, set, take, drop, length-set}
-use lib.Seq.{get_or-set_same, get_or-set_other}
+use lib.ListN.{length, get_or, set, take, length-set}
+use lib.Seq.{get_or-set_same, get_or-set_other, length-take-le}
 use borrow.Author.Count.{below_none, below_more}
 use Rattle.terms.specs.Decides.{Decides}
-use Rattle.terms.specs.Search.{first_at}
+use Rattle.std.proofs.Common.{Option, Some, None, MatchOption, unwrap_or}
+use Rattle.std.specs.List.{AllWithin, HoldsAt}
+use Rattle.std.proofs.lemmas.List.{get_or-take}
+use Rattle.terms.specs.Search.{first_at, search_from, ends_if, ends, goes}
 use Rattle.terms.proofs.Tests.{says_le, says_eq, refutes, decides_same, decides_via, ◌&◌}
 use Rattle.terms.proofs.SearchLaws.{Looking, looking_start, looking_here, looking_next, looking_end}
-use Rattle.terms.proofs.SearchLaws.{first_same, first_most, first_holds, first_found, first_at_lem, first_none}
+use Rattle.terms.proofs.SearchLaws.{stops, passes, search_means, FirstOf, first_tells, first_same, first_most, first_holds, first_found, first_at_lem, first_none}
 use Rattle.rules.specs.Editions.{motive_asked}
 use Rattle.rules.specs.Motives.{gives_motive}
 use Rattle.rules.specs.MotiveNumbers.{MotiveAskedBy, MotiveGivenBy}
@@ -25,43 +28,59 @@ use Rattle.rules.proofs.EditionLaws.{says_motive, motive_or_not}
 use Rattle.rules.proofs.MotiveLaws.{says_gives}
 use Rattle.rules.proofs.TableLaws.{range_2}
 use Rattle.sheets.specs.declared.lines.Line.{Line}
-use Rattle.sheets.specs.Layout.{edition_of, contexts_in}
+use Rattle.sheets.specs.Layout.{edition_of, contexts_in, lines_in}
 use Rattle.sheets.specs.Lines.{line_of, judgment_of, line_at, stated_at}
 use Rattle.sheets.specs.Good.{Good}
 use Rattle.sheets.specs.Conversion.{new_edition, wants_motive, motive_line, first_without, new_premise}
 use Rattle.sheets.specs.Conversion.{WantsMotive, IsMotiveOf, HasMotive, LowestMotive, AllMotives, LowestWithout}
 use Rattle.sheets.specs.MotiveSteps.{MotivesGiven, NewPremises}
-use Rattle.sheets.proofs.BufferLaws.{part_to_end}
-use Rattle.sheets.proofs.CitingLaws.{lines_part, part_lines}
 use Rattle.sheets.proofs.LineAnswers.{judgments_in_tables}
 
--- the search of the last `left` of so many places
-pub record LookingLeft (test : ℕ → Bool) (count left : ℕ) : Type 0 where
-  pub few : left ≤ count
-  pub ahead : Looking test (λ i. i) count count (first_at test (λ i. i) count count 0) (count - left)
+-- what the search of an array's first places for a number answers
+module _ (numbers : List ℕ) (count wanted : ℕ) where
+  abbrev Others : ℕ → Type 0
+  Others = AllWithin (λ x. x ≡ wanted → ⊥) (take count numbers) 0
 
-module _ {test : ℕ → Bool} {count : ℕ} where
-  pub left_start : LookingLeft test count count
-  left_start =
-      let first : 0 ≡ count - count = omega arith in
-      record {
-        few = omega arith;
-        ahead =
-            subst (Looking test (λ i. i) count count (first_at test (λ i. i) count count 0)) first
-            (looking_start count (omega arith) refl);
-      }
+  pub first_position : count ≤ length numbers → (place : Option ℕ)
+      → MatchOption place (Others (length (take count numbers)))
+      (λ i. (i < length (take count numbers)) × HoldsAt (λ x. x ≡ wanted) (take count numbers) i × Others i)
+      → place ≡ first_at (λ k. eqb (get_or numbers k 0) wanted) Some None count 0
+  first_position room place found = sym ((means place).1 (from place found))
+    where
+      Here : ℕ → Type 0
+      Here k = get_or numbers k 0 ≡ wanted
 
-  pub left_next : {left : ℕ} → LookingLeft test count left → 0 < left → test (count - left) ≡ false
-      → LookingLeft test count (left - 1)
-  left_next {left} at h passed =
-      let few = at.few in
-      let next : count - left + 1 ≡ count - (left - 1) = omega arith in
-      record {
-        few = omega arith;
-        ahead =
-            subst (Looking test (λ i. i) count count (first_at test (λ i. i) count count 0)) next
-            (looking_next at.ahead (omega arith) passed);
-      }
+      means : (a : Option ℕ) → (first_at (λ k. eqb (get_or numbers k 0) wanted) Some None count 0 ≡ a) ↔ FirstOf Here Some None 0 count a
+      means = search_means (first_tells Here Some (λ k. says_eq (get_or numbers k 0) wanted)) None count 0 count (omega arith)
+
+      long : length (take count numbers) ≡ count
+      long = length-take-le count numbers room
+
+      from : (a : Option ℕ)
+          → MatchOption a (Others (length (take count numbers)))
+          (λ i. (i < length (take count numbers)) × HoldsAt (λ x. x ≡ wanted) (take count numbers) i × Others i)
+          → FirstOf Here Some None 0 count a
+      from None all =
+          passes (λ k low high e. all k 0 low (omega (arith, long)) (get_or-take count numbers k 0 high ∙ e)) refl
+      from (Some i) (within, here, before) =
+          let high : i < count = omega (arith, long) in
+          stops i (omega arith) high
+          (λ k low less e. before k 0 low less (get_or-take count numbers k 0 (omega arith) ∙ e))
+          (sym (get_or-take count numbers i 0 high) ∙ here 0, refl)
+
+-- a first place, or a number for none
+first_or : (test : ℕ → Bool) (none more n : ℕ)
+    → unwrap_or (first_at test Some None more n) none ≡ first_at test (λ k. k) none more n
+unfolding search_from ends_if
+first_or test none zero n = refl
+first_or test none (suc more) n = on (test n) (first_or test none more (suc n))
+  where
+    on : (b : Bool)
+        → unwrap_or (first_at test Some None more (suc n)) none ≡ first_at test (λ k. k) none more (suc n)
+        → unwrap_or (elim (ends_if b (Some n)) [ ends a ↦ a | goes t ↦ first_at test Some None more (suc n) ]) none
+        ≡ elim (ends_if b n) [ ends a ↦ a | goes t ↦ first_at test (λ k. k) none more (suc n) ]
+    on true rest = refl
+    on false rest = rest
 
 -- an array that holds what it should at its first n places, and one element more
 array_next : (P : ℕ → ℕ → Type 0) (a : List ℕ) (n x : ℕ) → n < length a → ((k : ℕ) → k < n → P k (get_or a k 0))
@@ -182,20 +201,12 @@ module _ (bytes : List ℕ) (T C : ℕ) where
       every_motive,
     )
 
--- the part of a sheet that begins with its contexts, as it is handed to the functions of crate rules
-abbrev pub contexts_part : List ℕ → ℕ → List ℕ
-contexts_part bytes T = take (length bytes - 10 * T) (drop (10 * T) bytes)
-
-part_contexts : (bytes : List ℕ) (T : ℕ) → contexts_part bytes T ≡ contexts_in bytes T
-unfolding contexts_in
-part_contexts bytes T = part_to_end bytes (10 * T)
-
 module _ (bytes : List ℕ) (T C n : ℕ) {line : Line} where
   -- a line that is read
-  pub read_is : {edition : ℕ} → edition ≡ edition_of bytes → line ≡ line_of edition (lines_part bytes T C) n
-      → line ≡ line_at bytes T C n
+  pub read_is : {edition : ℕ} {rows : List ℕ} → edition ≡ edition_of bytes → rows ≡ lines_in bytes T C
+      → line ≡ line_of edition rows n → line ≡ line_at bytes T C n
   unfolding line_at
-  read_is own e = e ∙ (λ i. line_of (own i) (part_lines bytes T C i) n)
+  read_is own part e = e ∙ (λ i. line_of (own i) (part i) n)
 
   -- what `asks_motive` answers about it
   pub asks_is : {asks : Bool} → line ≡ line_at bytes T C n → asks ≡ motive_asked new_edition line.rule
@@ -222,15 +233,15 @@ module _ {bytes : List ℕ} {T C L : ℕ} (g : Good bytes T C L) where
     states : j ≡ judgment_of (line_at bytes T C n)
     states = e ∙ ap judgment_of is
 
-    pub read_in_tables : JudgmentsInTables bytes (contexts_part bytes T) (j ∷ [])
+    pub read_in_tables : JudgmentsInTables bytes (contexts_in bytes T) (j ∷ [])
     read_in_tables =
-        subst₂ (λ rows i. JudgmentsInTables bytes rows (i ∷ [])) (sym (part_contexts bytes T)) (sym states)
+        subst (λ i. JudgmentsInTables bytes (contexts_in bytes T) (i ∷ [])) (sym states)
         (judgments_in_tables g.tables _ ((g.lines n h).ok.numbers, tt))
 
     -- `motive_given`
-    pub number_given : {r : ℕ} → MotiveGivenBy bytes (contexts_part bytes T) j r
+    pub number_given : {r : ℕ} → MotiveGivenBy bytes (contexts_in bytes T) j r
         → MotiveGivenBy bytes (contexts_in bytes T) (judgment_of (line_at bytes T C n)) r
-    number_given {r} m = subst₂ (λ rows i. MotiveGivenBy bytes rows i r) (part_contexts bytes T) states m
+    number_given {r} m = subst (λ i. MotiveGivenBy bytes (contexts_in bytes T) i r) states m
 
     -- `new_premise`, where the line wants a motive
     module _ (wants : WantsMotive bytes T C n) where
@@ -250,10 +261,10 @@ module _ {bytes : List ℕ} {T C L : ℕ} (g : Good bytes T C L) where
             (subst (λ i. MotiveAskedBy bytes i asked) states by)) (says_eq (get_or given k 0) asked))
             (says_gives (stated_at bytes T C k) (stated_at bytes T C n))
 
-        pub found_premise : first_at (λ k. eqb (get_or given k 0) asked) (λ k. k) n n 0 ≡ new_premise bytes T C n
+        pub found_premise : unwrap_or (first_at (λ k. eqb (get_or given k 0) asked) Some None n 0) n ≡ new_premise bytes T C n
         unfolding motive_line
         found_premise =
-            first_same _ _ (λ k. k) n n 0 (λ k _ l. alike k (omega arith)) ∙ sym (premise_wanted bytes T C n wants)
+            first_or _ n n 0 ∙ first_same _ _ (λ k. k) n n 0 (λ k _ l. alike k (omega arith)) ∙ sym (premise_wanted bytes T C n wants)
 
 -- `find_motives`: the first n lines have their numbers in the arrays, and none of them is without a motive
 module _ (bytes : List ℕ) (T C L : ℕ) where
@@ -293,8 +304,11 @@ module _ (bytes : List ℕ) (T C L : ℕ) where
       on false = refl
 
   module _ {first given : List ℕ} {n : ℕ} (at : Found first given n) where
-    pub found_end : L ≤ n → (L ≡ first_without bytes T C L) × NewPremises bytes T C first L
-    found_end h = (looking_end at.looking h, λ k l. at.premises k (omega arith))
+    pub found_end : L ≤ n
+        → (first_without bytes T C L ≡ L) × NewPremises bytes T C first (first_without bytes T C L)
+    found_end h =
+        let all = looking_end at.looking h in
+        (sym all, subst (NewPremises bytes T C first) all (λ k l. at.premises k (omega arith)))
 
     -- `asks` is what `asks_motive` answers about line n, and `premise` what `new_premise` does
     module _ (h : n < L) {asks : Bool} (a : asks ≡ wants_motive bytes T C n)
@@ -303,8 +317,10 @@ module _ (bytes : List ℕ) (T C L : ℕ) where
       test_is = (λ i. a i && eqb (p i) n) ∙ own_premise n
 
       pub found-without : (asks && eqb premise n) ≡ true
-          → (n ≡ first_without bytes T C L) × NewPremises bytes T C first n
-      found-without taken = (looking_here at.looking h (sym test_is ∙ taken), at.premises)
+          → ((n < L) × (first_without bytes T C L ≡ n)) × NewPremises bytes T C first (first_without bytes T C L)
+      found-without taken =
+          let place = looking_here at.looking h (sym test_is ∙ taken) in
+          ((h, sym place), subst (NewPremises bytes T C first) place at.premises)
 
       pub premise_small : L ≤ 1024 → premise < 65536
       premise_small few = omega (arith, p, premise_most bytes T C n)

@@ -1,5 +1,10 @@
 -- Withdrawal of one line is withdrawal of the set of that line: answer, output and what is kept.
 -- Assumes nothing.
+use Rattle.std.specs.Prelude.{Result, Ok, Err}
+use Rattle.sheets.specs.declared.refusals.Counts.{Counts}
+use Rattle.sheets.specs.declared.refusals.Fault.TheVariants.{NoLine}
+use Rattle.sheets.specs.declared.refusals.Refusal.{Refusal}
+use Rattle.sheets.specs.Refusals.{refused}
 use mathlib.Core.Path.{◌≡◌, refl, sym, ◌∙◌, ap, subst}
 use mathlib.Core.Logic.{⊎_elim}
 use mathlib.Core.List.{List, [], ◌∷◌}
@@ -7,10 +12,6 @@ use Prim.Native.Nat.{ℕ}
 use native.Mathlib.Omega.{arith}
 use lib.ListN.{length}
 use Rattle.terms.specs.Lists.{without}
-use Rattle.sheets.specs.declared.admission.Admission.{Admission}
-use Rattle.sheets.specs.declared.admission.Admission.TheVariants.{Accepted, Refused as not_admitted}
-use Rattle.sheets.specs.declared.withdrawal.Withdrawal.{Withdrawal}
-use Rattle.sheets.specs.declared.withdrawal.Withdrawal.TheVariants.{Written, Refused}
 use Rattle.sheets.specs.Layout.{edition_of, lines_in}
 use Rattle.sheets.specs.Lines.{line_of, line_at}
 use Rattle.sheets.specs.Admission.{admit_of}
@@ -44,13 +45,13 @@ module _ (bytes : List ℕ) (n work room : ℕ) where
     unused none k low high x = none n (listed_first n []) k high (one_other (λ e. omega (arith, e, low)), x)
 
     -- the set's answers mean what the line's do
-    from_set : {a : Withdrawal} → AdmittedSetMeans bytes T C L (n ∷ []) room a
+    from_set : {a : Result ℕ Refusal} → AdmittedSetMeans bytes T C L (n ∷ []) room a
         → AdmittedWithdrawalMeans bytes T C L n room a
     unfolding kept_length new_length line_at
     from_set (not_rising f) = absurd (f (one_rises n))
     from_set (beyond {n = k} rising m) =
         let e : n ≡ k = one_listed m.listed in
-        subst (λ i. AdmittedWithdrawalMeans bytes T C L n room (Refused 11 i)) e
+        subst (λ i. AdmittedWithdrawalMeans bytes T C L n room (refused NoLine i)) e
         (missing (omega (arith, e, m.missing)))
     from_set (cited {n = m} {p = p} rising all u) =
         let e : n ≡ m = one_listed u.listed in
@@ -69,13 +70,14 @@ module _ (bytes : List ℕ) (n work room : ℕ) where
     from_set (too_short rising all none k) = short (all n (listed_first n [])) (unused none) k
     from_set (withdrawn rising all none k) = written (all n (listed_first n [])) (unused none) k
 
-  on_admission : (a : Admission) → admit_of bytes work ≡ a
+  on_admission : (a : Result Counts Refusal) → admit_of bytes work ≡ a
       → withdraw_of bytes n work room ≡ withdraw_set_of bytes (n ∷ []) work room
-  on_admission (not_admitted number place) e =
-      withdraw_refused bytes n work room number place e ∙ sym (set-refused bytes (n ∷ []) work room number place e)
-  on_admission (Accepted T C L) e =
-      (withdrawn_is bytes n work room T C L e (withdraw_set_of bytes (n ∷ []) work room)).1
-      (from_set T C L ((accepted_is bytes work T C L).0 e).0 ((set_is bytes (n ∷ []) work room T C L e _).0 refl))
+  on_admission (Err r) e =
+      withdraw_refused bytes n work room r.fault r.place e ∙ sym (set-refused bytes (n ∷ []) work room r.fault r.place e)
+  on_admission (Ok c) e =
+      (withdrawn_is bytes n work room c.terms c.contexts c.lines e (withdraw_set_of bytes (n ∷ []) work room)).1
+      (from_set c.terms c.contexts c.lines ((accepted_is bytes work c.terms c.contexts c.lines).0 e).0
+      ((set_is bytes (n ∷ []) work room c.terms c.contexts c.lines e _).0 refl))
 
   pub single_answer : withdraw_of bytes n work room ≡ withdraw_set_of bytes (n ∷ []) work room
   single_answer = on_admission (admit_of bytes work) refl
@@ -86,11 +88,11 @@ module _ (bytes : List ℕ) (n work : ℕ) (before : List ℕ) where
   single_out = ap (out_from (without_line bytes n) before) (single_answer bytes n work (length before))
 
 -- demand 3 (c)
-pub single_keeps : (bytes : List ℕ) (n : ℕ) (after : List ℕ) (a : Withdrawal) → KeepsTheUnlisted bytes (n ∷ []) after a
+pub single_keeps : (bytes : List ℕ) (n : ℕ) (after : List ℕ) (a : Result ℕ Refusal) → KeepsTheUnlisted bytes (n ∷ []) after a
     → KeepsTheOthers bytes n after a
 unfolding KeepsTheUnlisted KeepsTheOthers
-single_keeps bytes n after (Refused number place) k = tt
-single_keeps bytes n after (Written new) k = (
+single_keeps bytes n after (Err r) k = tt
+single_keeps bytes n after (Ok new) k = (
   k.0,
   k.1,
   k.2 ∙ without_next n [] (one_rises n) (stated_by bytes) ∙ ap (without n) (without_none (stated_by bytes)),

@@ -1,6 +1,8 @@
 -- The output after a withdrawal is what document 01 says, for any sheet, line number and buffers; no other bytes are:
 -- the withdrawal of the set of one line.
 -- Assumes nothing.
+use Rattle.std.specs.Prelude.{Result, Ok, Err}
+use Rattle.sheets.specs.declared.refusals.Refusal.{Refusal}
 use mathlib.Core.Path.{◌≡◌, refl, sym, ◌∙◌, ap, subst}
 use mathlib.Core.List.{List, [], ◌∷◌}
 use Prim.Native.Nat.{ℕ, zero, suc, ◌-◌, ◌≤◌, ◌<◌}
@@ -8,8 +10,6 @@ use native.Mathlib.Decide.{dec_lt}
 use native.Mathlib.Omega.{arith}
 use lib.ListN.{length}
 use Rattle.terms.specs.Buffers.{over}
-use Rattle.sheets.specs.declared.withdrawal.Withdrawal.{Withdrawal}
-use Rattle.sheets.specs.declared.withdrawal.Withdrawal.TheVariants.{Written, Refused}
 use Rattle.sheets.specs.Layout.{lines_in, trailer_of}
 use Rattle.sheets.specs.Good.{Good}
 use Rattle.sheets.specs.GoodLayout.{trailer_for}
@@ -115,35 +115,35 @@ module _ {bytes : List ℕ} {T C L n : ℕ} (g : Good bytes T C L) (there : n < 
       (set_left n bytes before after _ in_trailer o)
 
 module _ (bytes : List ℕ) (n work : ℕ) (before : List ℕ) where
-  abbrev Means : Withdrawal → Type 0
+  abbrev Means : Result ℕ Refusal → Type 0
   Means = WithdrawalMeans bytes work n (length before)
 
-  left : (a : Withdrawal) → Means a → OutputLeft bytes n before (out_from (without_line bytes n) before a) a
+  left : (a : Result ℕ Refusal) → Means a → OutputLeft bytes n before (out_from (without_line bytes n) before a) a
   unfolding OutputLeft out_from
-  left (Refused number place) m = refl
-  left (Written new) m = at m
+  left (Err r) m = refl
+  left (Ok new) m = at m
     where
-      here : {T C L l : ℕ} → Good bytes T C L → AdmittedWithdrawalMeans bytes T C L n (length before) (Written l)
+      here : {T C L l : ℕ} → Good bytes T C L → AdmittedWithdrawalMeans bytes T C L n (length before) (Ok l)
           → WrittenLeft bytes n before (over (without_line bytes n) before) l
       here g (written h u room) = sheet_left g h before room
 
-      at : {l : ℕ} → Means (Written l) → WrittenLeft bytes n before (over (without_line bytes n) before) l
+      at : {l : ℕ} → Means (Ok l) → WrittenLeft bytes n before (over (without_line bytes n) before) l
       at (admitted g fits answer) = here g answer
 
-  only : (a : Withdrawal) → Means a → (after : List ℕ) → Bytes after → OutputLeft bytes n before after a
+  only : (a : Result ℕ Refusal) → Means a → (after : List ℕ) → Bytes after → OutputLeft bytes n before after a
       → after ≡ out_from (without_line bytes n) before a
   unfolding OutputLeft out_from
-  only (Refused number place) m after b o = o
-  only (Written new) m after b o = at m o
+  only (Err r) m after b o = o
+  only (Ok new) m after b o = at m o
     where
-      here : {T C L l : ℕ} → Good bytes T C L → AdmittedWithdrawalMeans bytes T C L n (length before) (Written l)
+      here : {T C L l : ℕ} → Good bytes T C L → AdmittedWithdrawalMeans bytes T C L n (length before) (Ok l)
           → WrittenLeft bytes n before after l → after ≡ over (without_line bytes n) before
       here g (written h u room) k = sheet_only g h before after b k
 
-      at : {l : ℕ} → Means (Written l) → WrittenLeft bytes n before after l → after ≡ over (without_line bytes n) before
+      at : {l : ℕ} → Means (Ok l) → WrittenLeft bytes n before after l → after ≡ over (without_line bytes n) before
       at (admitted g fits answer) k = here g answer k
 
-  module _ (a : Withdrawal) (answer : withdraw_of bytes n work (length before) ≡ a) where
+  module _ (a : Result ℕ Refusal) (answer : withdraw_of bytes n work (length before) ≡ a) where
     means : Means a
     means = (withdrawal_is bytes work n (length before) a).0 answer
 

@@ -1,5 +1,10 @@
 -- What the functions of withdrawal answer, from what their callees answer; what their callees ask.
 -- Assumes nothing.
+use Rattle.std.specs.Prelude.{Result, Ok, Err}
+use Rattle.sheets.specs.declared.refusals.Counts.{Counts}
+use Rattle.sheets.specs.declared.refusals.Fault.TheVariants.{LineUsed, Room}
+use Rattle.sheets.specs.declared.refusals.Refusal.{Refusal}
+use Rattle.sheets.specs.Refusals.{refused}
 use mathlib.Core.Path.{◌≡◌, refl, sym, ◌∙◌, ap, subst, subst₂}
 use mathlib.Core.List.{List}
 use Prim.Native.Nat.{ℕ, ◌+◌, ◌-◌, ◌*◌, ◌≤◌, ◌<◌}
@@ -7,11 +12,7 @@ use native.Mathlib.Omega.{arith}
 use lib.ListN.{length, get_or}
 use Rattle.terms.specs.Buffers.{over}
 use Rattle.sheets.specs.declared.layout.Trailer.{Trailer}
-use Rattle.sheets.specs.declared.admission.Admission.{Admission}
-use Rattle.sheets.specs.declared.admission.Admission.TheVariants.{Accepted, Refused as not_admitted}
-use Rattle.sheets.specs.declared.withdrawal.Withdrawal.{Withdrawal}
-use Rattle.sheets.specs.declared.withdrawal.Withdrawal.TheVariants.{Written, Refused}
-use Rattle.sheets.specs.Layout.{edition_of}
+use Rattle.sheets.specs.Layout.{edition_of, lines_in}
 use Rattle.sheets.specs.Admission.{admit_of}
 use Rattle.sheets.specs.Good.{Good}
 use Rattle.sheets.specs.LineSets.{Rises}
@@ -21,7 +22,6 @@ use Rattle.sheets.specs.KeptWords.{start_of, end_of, kept_word, SmallTrailer, Ke
 use Rattle.sheets.specs.Withdrawal.{after_use, out_from}
 use Rattle.sheets.specs.WithdrawalSet.{kept_use, kept_length, kept_answer, after_set, withdraw_set_after, withdraw_set_of}
 use Rattle.sheets.specs.WithdrawalSet.{without_lines, set_out_after, AllLines, KeepsTheUnlisted}
-use Rattle.sheets.proofs.CitingLaws.{lines_part, part_lines}
 use Rattle.sheets.proofs.WithdrawalLaws.{use_refused, room_refused, room_enough}
 use Rattle.sheets.proofs.WrittenLaws.{written}
 use Rattle.sheets.proofs.KeptWordLaws.{kept_lines, kept_written}
@@ -30,20 +30,20 @@ use Rattle.sheets.proofs.SetLaws.{set_keeps}
 -- `withdraw_lines`
 module _ (b : List ℕ) (T C L : ℕ) (g : Good b T C L) where
   -- p is what the search answers
-  module _ (set : List ℕ) (room : ℕ) {edition : ℕ} (own : edition ≡ edition_of b) (p : ℕ)
-      (e : p ≡ kept_use edition (lines_part b T C) L set) where
+  module _ (set : List ℕ) (room : ℕ) {edition : ℕ} (own : edition ≡ edition_of b) {rows : List ℕ}
+      (part : rows ≡ lines_in b T C) (p : ℕ) (e : p ≡ kept_use edition rows L set) where
     searched : kept_answer b T C L set room ≡ after_use L (kept_length T C L set) room p
     unfolding kept_answer
-    searched = ap (after_use L (kept_length T C L set) room) (sym (e ∙ (λ i. kept_use (own i) (part_lines b T C i) L set)))
+    searched = ap (after_use L (kept_length T C L set) room) (sym (e ∙ (λ i. kept_use (own i) (part i) L set)))
 
-    pub answer_12 : p < L → Refused 12 p ≡ kept_answer b T C L set room
+    pub answer_12 : p < L → refused LineUsed p ≡ kept_answer b T C L set room
     answer_12 h = sym (searched ∙ use_refused L (kept_length T C L set) room p h)
 
-    pub answer_13 : L ≤ p → room < kept_length T C L set → Refused 13 0 ≡ kept_answer b T C L set room
+    pub answer_13 : L ≤ p → room < kept_length T C L set → refused Room 0 ≡ kept_answer b T C L set room
     answer_13 h k = sym (searched ∙ room_refused L (kept_length T C L set) room p h k)
 
     pub answer_written : L ≤ p → kept_length T C L set ≤ room
-        → Written (kept_length T C L set) ≡ kept_answer b T C L set room
+        → Ok (kept_length T C L set) ≡ kept_answer b T C L set room
     answer_written h k = sym (searched ∙ room_enough L (kept_length T C L set) room p h k)
 
   -- the writer is handed this trailer and the numbers of the lines
@@ -68,33 +68,28 @@ module _ (b : List ℕ) (T C L : ℕ) (g : Good b T C L) where
         f ∙ ap (λ x. over (written (kept_word b x below kept) (end_of x + 8)) before) trailer_left
         ∙ ap (λ x. over x before) (sym (kept_written g rising all numbers known))
 
--- `withdraw_set`, where a is the answer of admission
+-- `withdraw_set`
 module _ (b set : List ℕ) (work : ℕ) (before : List ℕ) where
-  pub kept : (after : List ℕ) (r : Withdrawal) → r ≡ withdraw_set_of b set work (length before)
+  pub kept : (after : List ℕ) (r : Result ℕ Refusal) → r ≡ withdraw_set_of b set work (length before)
       → after ≡ set_out_after b set work before → KeepsTheUnlisted b set after r
   kept after r e f = subst₂ (KeepsTheUnlisted b set) (sym f) (sym e) (set_keeps b set work before)
 
-  module _ (a : Admission) (e : a ≡ admit_of b work) where
-    answered : withdraw_set_after b set (length before) a ≡ withdraw_set_of b set work (length before)
-    unfolding withdraw_set_of
-    answered = ap (withdraw_set_after b set (length before)) e
+  -- an answer and the output that it leaves
+  whole : {a : Result Counts Refusal} → admit_of b work ≡ a → (r : Result ℕ Refusal) (after : List ℕ)
+      → r ≡ withdraw_set_after b set (length before) a → after ≡ out_from (without_lines b set) before r
+      → (r ≡ withdraw_set_of b set work (length before)) × (after ≡ set_out_after b set work before)
+  unfolding withdraw_set_of set_out_after
+  whole e r after x y =
+      let answer = x ∙ ap (withdraw_set_after b set (length before)) (sym e) in
+      (answer, y ∙ ap (out_from (without_lines b set) before) answer)
 
-    -- an answer and the output that it leaves
-    whole : (r : Withdrawal) (after : List ℕ) → r ≡ withdraw_set_after b set (length before) a
-        → after ≡ out_from (without_lines b set) before r
-        → (r ≡ withdraw_set_of b set work (length before)) × (after ≡ set_out_after b set work before)
-    unfolding set_out_after
-    whole r after x y = (x ∙ answered, y ∙ ap (out_from (without_lines b set) before) (x ∙ answered))
+  pub handed_on : {r : Refusal} → admit_of b work ≡ Err r
+      → (Err r ≡ withdraw_set_of b set work (length before)) × (before ≡ set_out_after b set work before)
+  unfolding withdraw_set_after out_from
+  handed_on {r} e = whole e (Err r) before refl refl
 
-    pub handed_on : (number place : ℕ) → a ≡ not_admitted number place
-        → (Refused number place ≡ withdraw_set_of b set work (length before)) × (before ≡ set_out_after b set work before)
-    unfolding withdraw_set_after out_from
-    handed_on number place h =
-        whole (Refused number place) before (ap (withdraw_set_after b set (length before)) (sym h)) refl
-
-    module _ (T C L : ℕ) (h : a ≡ Accepted T C L) where
-      pub gone_on : (r : Withdrawal) (after : List ℕ) → r ≡ after_set b T C L set (length before)
-          → after ≡ out_from (without_lines b set) before r
-          → (r ≡ withdraw_set_of b set work (length before)) × (after ≡ set_out_after b set work before)
-      unfolding withdraw_set_after
-      gone_on r after x y = whole r after (x ∙ ap (withdraw_set_after b set (length before)) (sym h)) y
+  pub gone_on : (n : Counts) → admit_of b work ≡ Ok n → (r : Result ℕ Refusal) (after : List ℕ)
+      → r ≡ after_set b n.terms n.contexts n.lines set (length before) → after ≡ out_from (without_lines b set) before r
+      → (r ≡ withdraw_set_of b set work (length before)) × (after ≡ set_out_after b set work before)
+  unfolding withdraw_set_after
+  gone_on n e r after x y = whole e r after x y

@@ -1,6 +1,12 @@
 -- Withdrawal of a set, on a sheet that admission accepts: each answer is given exactly if it means what document 02
 -- says. On any other sheet admission's refusal is answered. Demand 3 (c).
 -- Assumes nothing.
+use Rattle.std.specs.Prelude.{Result, Ok, Err}
+use Rattle.sheets.specs.declared.refusals.Counts.{Counts}
+use Rattle.sheets.specs.declared.refusals.Fault.{Fault}
+use Rattle.sheets.specs.declared.refusals.Fault.TheVariants.{NoLine, NotRising}
+use Rattle.sheets.specs.declared.refusals.Refusal.{Refusal}
+use Rattle.sheets.specs.Refusals.{refused, counts}
 use mathlib.Core.Path.{◌≡◌, refl, sym, ◌∙◌, ap, subst}
 use mathlib.Core.Logic.{◌↔◌, ◌⊎◌, inl, inr}
 use mathlib.Core.Bool.{Bool, true, false, ◌&&◌}
@@ -14,10 +20,6 @@ use lib.Seq.{take_at}
 use Rattle.terms.specs.Decides.{Decides}
 use Rattle.terms.specs.Buffers.{over}
 use Rattle.terms.proofs.Tests.{either, refutes, refuted, says_lt, says_le, ◌&◌}
-use Rattle.sheets.specs.declared.admission.Admission.{Admission}
-use Rattle.sheets.specs.declared.admission.Admission.TheVariants.{Accepted, Refused as not_admitted}
-use Rattle.sheets.specs.declared.withdrawal.Withdrawal.{Withdrawal}
-use Rattle.sheets.specs.declared.withdrawal.Withdrawal.TheVariants.{Refused}
 use Rattle.sheets.specs.Layout.{edition_of, lines_in}
 use Rattle.sheets.specs.Admission.{admit_of}
 use Rattle.sheets.specs.Good.{Good}
@@ -70,11 +72,11 @@ module _ (L : ℕ) (set : List ℕ) where
 
 -- the ways through 18 and 11
 module _ (bytes : List ℕ) (T C L : ℕ) (set : List ℕ) (room : ℕ) where
-  pub not_rising_lem : rises set ≡ false → after_set bytes T C L set room ≡ Refused 18 0
+  pub not_rising_lem : rises set ≡ false → after_set bytes T C L set room ≡ refused NotRising 0
   unfolding after_set
   not_rising_lem e = rw (e, after_set)
 
-  pub not_there : rises set ≡ true → LastMissing L set → after_set bytes T C L set room ≡ Refused 11 (last_listed set)
+  pub not_there : rises set ≡ true → LastMissing L set → after_set bytes T C L set room ≡ refused NoLine (last_listed set)
   unfolding after_set
   not_there e m = rw (e, (last_says L set).1 m, after_set)
 
@@ -89,7 +91,7 @@ module _ (bytes : List ℕ) (T C L : ℕ) (set : List ℕ) (room : ℕ) where
   abbrev new : ℕ
   new = kept_length T C L set
 
-  abbrev Means : Withdrawal → Type 0
+  abbrev Means : Result ℕ Refusal → Type 0
   Means = AdmittedSetMeans bytes T C L set room
 
   kept_means : Rises set → AllLines L set → Means (kept_answer bytes T C L set room)
@@ -130,10 +132,10 @@ module _ (bytes : List ℕ) (T C L : ℕ) (set : List ℕ) (room : ℕ) where
   unfolding kept_answer
   there rising all = lines_there ((rises_says set).1 rising) (last_there L set all)
 
-  back : {a : Withdrawal} → Means a → after_set bytes T C L set room ≡ a
+  back : {a : Result ℕ Refusal} → Means a → after_set bytes T C L set room ≡ a
   back (not_rising f) = not_rising_lem (refutes (rises set) (rises_says set) f)
   back (beyond {n} rising m) =
-      let l = last_missing_lem L set n rising m in not_there ((rises_says set).1 rising) l.0 ∙ ap (Refused 11) l.1
+      let l = last_missing_lem L set n rising m in not_there ((rises_says set).1 rising) l.0 ∙ ap (refused NoLine) l.1
   back (cited {n} {p} rising all u) =
       there rising all ∙ ap (after_use L new room) (highest_use (edition_of bytes) (lines_in bytes T C) L set all n p u)
       ∙ use_refused L new room p u.within
@@ -144,23 +146,23 @@ module _ (bytes : List ℕ) (T C L : ℕ) (set : List ℕ) (room : ℕ) where
       there rising all
       ∙ room_enough L new room place (none_use (edition_of bytes) (lines_in bytes T C) L set all none) k
 
-  set_means : (a : Withdrawal) → (after_set bytes T C L set room ≡ a) ↔ Means a
+  set_means : (a : Result ℕ Refusal) → (after_set bytes T C L set room ≡ a) ↔ Means a
   set_means a = (λ e. subst Means e means, back)
 
 module _ (bytes set : List ℕ) (work room : ℕ) where
   -- a refusal of admission is handed on
-  pub set-refused : (number place : ℕ) → admit_of bytes work ≡ not_admitted number place
-      → withdraw_set_of bytes set work room ≡ Refused number place
+  pub set-refused : (fault : Fault) (place : ℕ) → admit_of bytes work ≡ refused fault place
+      → withdraw_set_of bytes set work room ≡ refused fault place
   unfolding withdraw_set_of withdraw_set_after
-  set-refused number place e = ap (withdraw_set_after bytes set room) e
+  set-refused fault at e = ap (withdraw_set_after bytes set room) e
 
-  module _ (T C L : ℕ) (accepted : admit_of bytes work ≡ Accepted T C L) where
+  module _ (T C L : ℕ) (accepted : admit_of bytes work ≡ Ok (counts T C L)) where
     set_admitted : withdraw_set_of bytes set work room ≡ after_set bytes T C L set room
     unfolding withdraw_set_of withdraw_set_after
     set_admitted = ap (withdraw_set_after bytes set room) accepted
 
     -- on an accepted sheet an answer is given exactly if it means what it should
-    pub set_is : (a : Withdrawal) → (withdraw_set_of bytes set work room ≡ a) ↔ AdmittedSetMeans bytes T C L set room a
+    pub set_is : (a : Result ℕ Refusal) → (withdraw_set_of bytes set work room ≡ a) ↔ AdmittedSetMeans bytes T C L set room a
     set_is a = (
       λ e. (set_means bytes T C L set room a).0 (sym set_admitted ∙ e),
       λ m. set_admitted ∙ (set_means bytes T C L set room a).1 m,
@@ -179,7 +181,7 @@ module _ (bytes set : List ℕ) (T C L : ℕ) (g : Good bytes T C L) (rising : R
 
 -- demand 3 (c)
 module _ (bytes set : List ℕ) (work : ℕ) (before : List ℕ) where
-  on_means : (T C L : ℕ) → Good bytes T C L → {a : Withdrawal} → AdmittedSetMeans bytes T C L set (length before) a
+  on_means : (T C L : ℕ) → Good bytes T C L → {a : Result ℕ Refusal} → AdmittedSetMeans bytes T C L set (length before) a
       → KeepsTheUnlisted bytes set (out_from (without_lines bytes set) before a) a
   unfolding KeepsTheUnlisted out_from
   on_means T C L g (not_rising f) = tt
@@ -193,14 +195,15 @@ module _ (bytes set : List ℕ) (work : ℕ) (before : List ℕ) where
         ap stated_by new ∙ stated_left bytes T C L g set rising all none,
       )
 
-  on_admission : (a : Admission) → admit_of bytes work ≡ a
+  on_admission : (a : Result Counts Refusal) → admit_of bytes work ≡ a
       → KeepsTheUnlisted bytes set
       (out_from (without_lines bytes set) before (withdraw_set_after bytes set (length before) a))
       (withdraw_set_after bytes set (length before) a)
   unfolding KeepsTheUnlisted withdraw_set_after
-  on_admission (not_admitted number place) e = tt
-  on_admission (Accepted T C L) e =
-      on_means T C L ((accepted_is bytes work T C L).0 e).0 (means bytes T C L set (length before))
+  on_admission (Err r) e = tt
+  on_admission (Ok c) e =
+      on_means c.terms c.contexts c.lines ((accepted_is bytes work c.terms c.contexts c.lines).0 e).0
+      (means bytes c.terms c.contexts c.lines set (length before))
 
   pub set_keeps : KeepsTheUnlisted bytes set (set_out_after bytes set work before)
       (withdraw_set_of bytes set work (length before))

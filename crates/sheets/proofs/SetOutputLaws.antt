@@ -1,5 +1,7 @@
 -- The output after a withdrawal of a set is what document 02 says, for any sheet, set and buffers; no other bytes are.
 -- Assumes nothing.
+use Rattle.std.specs.Prelude.{Result, Ok, Err}
+use Rattle.sheets.specs.declared.refusals.Refusal.{Refusal}
 use mathlib.Core.Path.{◌≡◌, refl, sym, ◌∙◌, ap, subst}
 use mathlib.Core.List.{List, [], ◌∷◌}
 use Prim.Native.Nat.{ℕ, zero, suc, ◌+◌, ◌-◌, ◌*◌, ◌≤◌}
@@ -7,8 +9,6 @@ use native.Mathlib.Omega.{arith}
 use lib.ListN.{length, take}
 use Rattle.terms.specs.Buffers.{over}
 use Rattle.sheets.specs.declared.layout.Trailer.{Trailer}
-use Rattle.sheets.specs.declared.withdrawal.Withdrawal.{Withdrawal}
-use Rattle.sheets.specs.declared.withdrawal.Withdrawal.TheVariants.{Written, Refused}
 use Rattle.sheets.specs.Good.{Good}
 use Rattle.sheets.specs.GoodLayout.{trailer_for}
 use Rattle.sheets.specs.Accepted.{Bytes}
@@ -77,37 +77,37 @@ module _ {bytes : List ℕ} {T C L : ℕ} (g : Good bytes T C L) (set : List ℕ
           words taken away
 
 module _ (bytes set : List ℕ) (work : ℕ) (before : List ℕ) where
-  abbrev Means : Withdrawal → Type 0
+  abbrev Means : Result ℕ Refusal → Type 0
   Means = SetWithdrawalMeans bytes work set (length before)
 
-  left : (a : Withdrawal) → Means a → SetOutputLeft bytes set before (out_from (without_lines bytes set) before a) a
+  left : (a : Result ℕ Refusal) → Means a → SetOutputLeft bytes set before (out_from (without_lines bytes set) before a) a
   unfolding SetOutputLeft out_from
-  left (Refused number place) m = refl
-  left (Written new) m = at m
+  left (Err r) m = refl
+  left (Ok new) m = at m
     where
-      here : {T C L l : ℕ} → Good bytes T C L → AdmittedSetMeans bytes T C L set (length before) (Written l)
+      here : {T C L l : ℕ} → Good bytes T C L → AdmittedSetMeans bytes T C L set (length before) (Ok l)
           → SetWrittenLeft bytes set before (over (without_lines bytes set) before) l
       here g (withdrawn rising all none room) = written_left g set rising all before room
 
-      at : {l : ℕ} → Means (Written l) → SetWrittenLeft bytes set before (over (without_lines bytes set) before) l
+      at : {l : ℕ} → Means (Ok l) → SetWrittenLeft bytes set before (over (without_lines bytes set) before) l
       at (admitted g fits answer) = here g answer
 
-  only : Bytes bytes → (a : Withdrawal) → Means a → (after : List ℕ) → Bytes after
+  only : Bytes bytes → (a : Result ℕ Refusal) → Means a → (after : List ℕ) → Bytes after
       → SetOutputLeft bytes set before after a → after ≡ out_from (without_lines bytes set) before a
   unfolding SetOutputLeft out_from
-  only sheet (Refused number place) m after b o = o
-  only sheet (Written new) m after b o = at m o
+  only sheet (Err r) m after b o = o
+  only sheet (Ok new) m after b o = at m o
     where
-      here : {T C L l : ℕ} → Good bytes T C L → AdmittedSetMeans bytes T C L set (length before) (Written l)
+      here : {T C L l : ℕ} → Good bytes T C L → AdmittedSetMeans bytes T C L set (length before) (Ok l)
           → SetWrittenLeft bytes set before after l → after ≡ over (without_lines bytes set) before
       here g (withdrawn rising all none room) k =
           left_only g set rising all before (left_of_words g.tables.laid sheet set) after b k
 
-      at : {l : ℕ} → Means (Written l) → SetWrittenLeft bytes set before after l
+      at : {l : ℕ} → Means (Ok l) → SetWrittenLeft bytes set before after l
           → after ≡ over (without_lines bytes set) before
       at (admitted g fits answer) k = here g answer k
 
-  module _ (a : Withdrawal) (answer : withdraw_set_of bytes set work (length before) ≡ a) where
+  module _ (a : Result ℕ Refusal) (answer : withdraw_set_of bytes set work (length before) ≡ a) where
     means : Means a
     means = (set_withdrawal_is bytes work set (length before) a).0 answer
 

@@ -1,6 +1,10 @@
 -- Withdrawal of a set answers what single withdrawals come to, taken from the highest number down, and leaves the sheet
 -- that they leave.
 -- Assumes nothing.
+use Rattle.std.specs.Prelude.{Result, Ok}
+use Rattle.sheets.specs.declared.refusals.Fault.TheVariants.{NoLine, LineUsed, Room}
+use Rattle.sheets.specs.declared.refusals.Refusal.{Refusal}
+use Rattle.sheets.specs.Refusals.{refused}
 use mathlib.Core.Path.{◌≡◌, refl, sym, ◌∙◌, ap, subst}
 use mathlib.Core.Logic.{◌↔◌, ⊎_elim}
 use mathlib.Core.List.{List, [], ◌∷◌}
@@ -10,8 +14,6 @@ use native.Mathlib.Omega.{arith}
 use lib.ListN.{length, take, drop}
 use lib.Seq.{take_at}
 use borrow.Author.Tests.{lt-ltb, le-ltb}
-use Rattle.sheets.specs.declared.withdrawal.Withdrawal.{Withdrawal}
-use Rattle.sheets.specs.declared.withdrawal.Withdrawal.TheVariants.{Written, Refused}
 use Rattle.sheets.specs.Layout.{edition_of, lines_in}
 use Rattle.sheets.specs.Lines.{line_at}
 use Rattle.sheets.specs.Good.{Good}
@@ -37,23 +39,23 @@ use Rattle.sheets.proofs.OneLineLaws.{one_listed}
 module _ (out : List ℕ) (enough : 52240 ≤ length out) where
   -- a good sheet keeps the limits, so each single withdrawal has room
   module _ (s : List ℕ) (T C L n : ℕ) (g : Good s T C L) (set : List ℕ) where
-    means : (a : Withdrawal) → AdmittedWithdrawalMeans s T C L n (length out) a → withdraw_of s n 3072 (length out) ≡ a
+    means : (a : Result ℕ Refusal) → AdmittedWithdrawalMeans s T C L n (length out) a → withdraw_of s n 3072 (length out) ≡ a
     means a =
         (withdrawn_is s n 3072 (length out) T C L ((accepted_is s 3072 T C L).1 (g, g.tables.laid.few_terms)) a).1
 
-    next_missing : L ≤ n → withdraw_next out set n (left s) ≡ stopped 11 (old_number set n)
+    next_missing : L ≤ n → withdraw_next out set n (left s) ≡ stopped NoLine (old_number set n)
     unfolding withdraw_next after_single
-    next_missing h = ap (after_single out set n s) (means (Refused 11 n) (missing h))
+    next_missing h = ap (after_single out set n s) (means (refused NoLine n) (missing h))
 
     next_used : (p : ℕ) → n < L → LowestUse (edition_of s) (lines_in s T C) L n p
-        → withdraw_next out set n (left s) ≡ stopped 12 (old_number set p)
+        → withdraw_next out set n (left s) ≡ stopped LineUsed (old_number set p)
     unfolding withdraw_next after_single
-    next_used p h u = ap (after_single out set n s) (means (Refused 12 p) (used h u))
+    next_used p h u = ap (after_single out set n s) (means (refused LineUsed p) (used h u))
 
     module _ (h : n < L) (u : Unused (edition_of s) (lines_in s T C) L n) where
-      answer : withdraw_of s n 3072 (length out) ≡ Written (new_length T C L)
+      answer : withdraw_of s n 3072 (length out) ≡ Ok (new_length T C L)
       unfolding new_length
-      answer = means (Written (new_length T C L)) (written h u (omega (arith, enough, g.tables.laid)))
+      answer = means (Ok (new_length T C L)) (written h u (omega (arith, enough, g.tables.laid)))
 
       -- the output up to the length returned
       sheet_taken : take (new_length T C L) (out_after s n 3072 out) ≡ without_line s n
@@ -69,12 +71,12 @@ module _ (out : List ℕ) (enough : 52240 ≤ length out) where
 
   module _ (b : List ℕ) (T C L : ℕ) (g : Good b T C L) where
     -- the highest number is withdrawn first, and is no line
-    singly_missing : (set : List ℕ) → Rises set → (n : ℕ) → HighestMissing L set n → singly out b set ≡ stopped 11 n
+    singly_missing : (set : List ℕ) → Rises set → (n : ℕ) → HighestMissing L set n → singly out b set ≡ stopped NoLine n
     unfolding singly withdraw_next old_number
     singly_missing [] rising n m = absurd (omega (arith, m.listed.1))
     singly_missing (k ∷ []) rising n m =
         let e : k ≡ n = one_listed m.listed in
-        next_missing b T C L k g [] (omega (arith, e, m.missing)) ∙ ap (stopped 11) e
+        next_missing b T C L k g [] (omega (arith, e, m.missing)) ∙ ap (stopped NoLine) e
     singly_missing (k ∷ i ∷ set) rising n m =
         ap (withdraw_next out (i ∷ set) k) (singly_missing (i ∷ set) (rises_later k (i ∷ set) rising) n later)
       where
@@ -208,16 +210,16 @@ module _ (out : List ℕ) (enough : 52240 ≤ length out) where
               first : Stays (k ∷ set) q
               first l = ⊎_elim (λ e. omega (arith, e, low, old_least set i)) other (listed_split k q set l)
 
-      singly_first : singly out b (k ∷ set) ≡ stopped 12 p
+      singly_first : singly out b (k ∷ set) ≡ stopped LineUsed p
       unfolding singly
       singly_first =
           ap (withdraw_next out set k) (singly_left set later lines none_above)
           ∙ next_used s T C (L - length set) k (good_left b T C L g set later lines none_above) set (new_number set p)
           (first_there k L set rising all) lowest_left
-          ∙ ap (stopped 12) (old_new set later p stays)
+          ∙ ap (stopped LineUsed) (old_new set later p stays)
 
     singly-used : (set : List ℕ) → Rises set → AllLines L set → (n p : ℕ) → Highest set n p
-        → singly out b set ≡ stopped 12 p
+        → singly out b set ≡ stopped LineUsed p
     unfolding singly withdraw_next
     singly-used [] rising all n p u = absurd (omega (arith, u.listed.1))
     singly-used (k ∷ set) rising all n p u =
@@ -230,15 +232,15 @@ module _ (out : List ℕ) (enough : 52240 ≤ length out) where
       long : AllLines L set → length (without_lines b set) ≡ kept_length T C L set
       long all = left_long b set T C L g rising all
 
-      short_room : (sheet : List ℕ) → room < length sheet → in_room room (left sheet) ≡ Refused 13 0
+      short_room : (sheet : List ℕ) → room < length sheet → in_room room (left sheet) ≡ refused Room 0
       unfolding in_room
       short_room sheet h = rw (lt-ltb room (length sheet) h, in_room)
 
-      enough_room : (sheet : List ℕ) → length sheet ≤ room → in_room room (left sheet) ≡ Written (length sheet)
+      enough_room : (sheet : List ℕ) → length sheet ≤ room → in_room room (left sheet) ≡ Ok (length sheet)
       unfolding in_room
       enough_room sheet h = rw (le-ltb room (length sheet) h, in_room)
 
-      from : {a : Withdrawal} → AdmittedSetMeans b T C L set room a → in_room room (singly out b set) ≡ a
+      from : {a : Result ℕ Refusal} → AdmittedSetMeans b T C L set room a → in_room room (singly out b set) ≡ a
       unfolding in_room
       from (not_rising f) = absurd (f rising)
       from (beyond {n = n} _ m) = ap (in_room room) (singly_missing set rising n m)
@@ -248,9 +250,9 @@ module _ (out : List ℕ) (enough : 52240 ≤ length out) where
           ∙ short_room (without_lines b set) (omega (arith, k, long all))
       from (withdrawn _ all none k) =
           ap (in_room room) (singly_left set rising all none)
-          ∙ enough_room (without_lines b set) (omega (arith, k, long all)) ∙ ap Written (long all)
+          ∙ enough_room (without_lines b set) (omega (arith, k, long all)) ∙ ap Ok (long all)
 
-      answered : (a : Withdrawal) → (withdraw_set_of b set work room ≡ a) ↔ AdmittedSetMeans b T C L set room a
+      answered : (a : Result ℕ Refusal) → (withdraw_set_of b set work room ≡ a) ↔ AdmittedSetMeans b T C L set room a
       answered = set_is b set work room T C L ((accepted_is b work T C L).1 (g, fits))
 
       -- the answer is what single withdrawals come to
@@ -258,9 +260,9 @@ module _ (out : List ℕ) (enough : 52240 ≤ length out) where
       by_singles = sym (from ((answered (withdraw_set_of b set work room)).0 refl))
 
       -- and the sheet that is written is the one that they leave
-      pub sheet_by_singles : (l : ℕ) → withdraw_set_of b set work room ≡ Written l
+      pub sheet_by_singles : (l : ℕ) → withdraw_set_of b set work room ≡ Ok l
           → singly out b set ≡ left (without_lines b set)
-      sheet_by_singles l e = at ((answered (Written l)).0 e)
+      sheet_by_singles l e = at ((answered (Ok l)).0 e)
         where
-          at : {m : ℕ} → AdmittedSetMeans b T C L set room (Written m) → singly out b set ≡ left (without_lines b set)
+          at : {m : ℕ} → AdmittedSetMeans b T C L set room (Ok m) → singly out b set ≡ left (without_lines b set)
           at (withdrawn _ all none k) = singly_left set rising all none

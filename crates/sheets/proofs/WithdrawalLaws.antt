@@ -1,6 +1,11 @@
 -- Withdrawal, on a sheet that admission accepts: each answer is given exactly if it means what document 01 says. On any
 -- other sheet admission's refusal is answered.
 -- Assumes nothing.
+use Rattle.std.specs.Prelude.{Result, Ok}
+use Rattle.sheets.specs.declared.refusals.Fault.{Fault}
+use Rattle.sheets.specs.declared.refusals.Fault.TheVariants.{NoLine, LineUsed, Room}
+use Rattle.sheets.specs.declared.refusals.Refusal.{Refusal}
+use Rattle.sheets.specs.Refusals.{refused, counts}
 use mathlib.Core.Path.{◌≡◌, refl, sym, ◌∙◌, ap, subst}
 use mathlib.Core.Logic.{◌↔◌, ◌⊎◌, inl, inr, ⊎_elim}
 use mathlib.Core.Bool.{Bool, ◌&&◌}
@@ -16,9 +21,6 @@ use Rattle.terms.proofs.Tests.{says_lt, says_eq, decides_via, ◌&◌, decides_e
 use Rattle.terms.proofs.SearchLaws.{stops, passes, search_means, FirstOf, first_tells}
 use Rattle.rules.specs.RuleTable.{premise_count}
 use Rattle.sheets.specs.declared.lines.Line.{Line}
-use Rattle.sheets.specs.declared.admission.Admission.TheVariants.{Accepted, Refused as not_admitted}
-use Rattle.sheets.specs.declared.withdrawal.Withdrawal.{Withdrawal}
-use Rattle.sheets.specs.declared.withdrawal.Withdrawal.TheVariants.{Written, Refused}
 use Rattle.sheets.specs.Layout.{edition_of, lines_in}
 use Rattle.sheets.specs.Lines.{line_of, premises_of}
 use Rattle.sheets.specs.Admission.{admit_of}
@@ -100,21 +102,21 @@ module _ (edition : ℕ) (lines : List ℕ) (n L : ℕ) (h : n < L) where
 
 -- the ways through 12 and 13
 module _ (L new room p : ℕ) where
-  pub use_refused : p < L → after_use L new room p ≡ Refused 12 p
+  pub use_refused : p < L → after_use L new room p ≡ refused LineUsed p
   unfolding after_use
   use_refused h = rw (lt-ltb p L h, after_use)
 
-  pub room_refused : L ≤ p → room < new → after_use L new room p ≡ Refused 13 0
+  pub room_refused : L ≤ p → room < new → after_use L new room p ≡ refused Room 0
   unfolding after_use
   room_refused h k = rw (le-ltb p L h, lt-ltb room new k, after_use)
 
-  pub room_enough : L ≤ p → new ≤ room → after_use L new room p ≡ Written new
+  pub room_enough : L ≤ p → new ≤ room → after_use L new room p ≡ Ok new
   unfolding after_use
   room_enough h k = rw (le-ltb p L h, le-ltb room new k, after_use)
 
 -- 11, then these
 module _ (bytes : List ℕ) (T C L n room : ℕ) where
-  line_missing : L ≤ n → after_line bytes T C L n room ≡ Refused 11 n
+  line_missing : L ≤ n → after_line bytes T C L n room ≡ refused NoLine n
   unfolding after_line
   line_missing h = rw (le-ltb n L h, after_line)
 
@@ -126,7 +128,7 @@ module _ (bytes : List ℕ) (T C L n room : ℕ) where
   means : AdmittedWithdrawalMeans bytes T C L n room (after_line bytes T C L n room)
   means = at (dec_lt n L)
     where
-      Means : Withdrawal → Type 0
+      Means : Result ℕ Refusal → Type 0
       Means = AdmittedWithdrawalMeans bytes T C L n room
 
       place : ℕ
@@ -153,7 +155,7 @@ module _ (bytes : List ℕ) (T C L n room : ℕ) where
       at (yes h) = subst Means (sym (line_there h)) (on_use h (dec_lt place L))
       at (no h) = subst Means (sym (line_missing (omega arith))) (missing (omega arith))
 
-  back : {a : Withdrawal} → AdmittedWithdrawalMeans bytes T C L n room a → after_line bytes T C L n room ≡ a
+  back : {a : Result ℕ Refusal} → AdmittedWithdrawalMeans bytes T C L n room a → after_line bytes T C L n room ≡ a
   back (missing h) = line_missing h
   back (used {p} h u) =
       let e = lowest_use (edition_of bytes) (lines_in bytes T C) n L h p u in
@@ -163,12 +165,12 @@ module _ (bytes : List ℕ) (T C L n room : ℕ) where
 
 module _ (bytes : List ℕ) (n work room : ℕ) where
   -- a refusal of admission is handed on
-  pub withdraw_refused : (number place : ℕ) → admit_of bytes work ≡ not_admitted number place
-      → withdraw_of bytes n work room ≡ Refused number place
+  pub withdraw_refused : (fault : Fault) (place : ℕ) → admit_of bytes work ≡ refused fault place
+      → withdraw_of bytes n work room ≡ refused fault place
   unfolding withdraw_of withdraw_after
-  withdraw_refused number place e = ap (withdraw_after bytes n room) e
+  withdraw_refused fault place e = ap (withdraw_after bytes n room) e
 
-  module _ (T C L : ℕ) (accepted : admit_of bytes work ≡ Accepted T C L) where
+  module _ (T C L : ℕ) (accepted : admit_of bytes work ≡ Ok (counts T C L)) where
     withdrawn_by : withdraw_of bytes n work room ≡ after_line bytes T C L n room
     unfolding withdraw_of withdraw_after
     withdrawn_by = ap (withdraw_after bytes n room) accepted
@@ -182,7 +184,7 @@ module _ (bytes : List ℕ) (n work room : ℕ) where
     LowestAt p = LowestUse (edition_of bytes) (lines_in bytes T C) L n p
 
     -- on an accepted sheet an answer is given exactly if it means what it should
-    pub withdrawn_is : (a : Withdrawal)
+    pub withdrawn_is : (a : Result ℕ Refusal)
         → (withdraw_of bytes n work room ≡ a) ↔ AdmittedWithdrawalMeans bytes T C L n room a
     withdrawn_is a = (
       λ e. subst (AdmittedWithdrawalMeans bytes T C L n room) (sym withdrawn_by ∙ e) (means bytes T C L n room),
@@ -190,32 +192,32 @@ module _ (bytes : List ℕ) (n work room : ℕ) where
     )
 
     -- number by number
-    pub missing_is : (withdraw_of bytes n work room ≡ Refused 11 n) ↔ (L ≤ n)
-    missing_is = (λ e. from ((withdrawn_is (Refused 11 n)).0 e), λ h. (withdrawn_is (Refused 11 n)).1 (missing h))
+    pub missing_is : (withdraw_of bytes n work room ≡ refused NoLine n) ↔ (L ≤ n)
+    missing_is = (λ e. from ((withdrawn_is (refused NoLine n)).0 e), λ h. (withdrawn_is (refused NoLine n)).1 (missing h))
       where
-        from : {p : ℕ} → AdmittedWithdrawalMeans bytes T C L n room (Refused 11 p) → L ≤ n
+        from : {p : ℕ} → AdmittedWithdrawalMeans bytes T C L n room (refused NoLine p) → L ≤ n
         from (missing h) = h
 
-    pub used_is : (p : ℕ) → (withdraw_of bytes n work room ≡ Refused 12 p) ↔ ((n < L) × LowestAt p)
-    used_is p = (λ e. from ((withdrawn_is (Refused 12 p)).0 e), λ h. (withdrawn_is (Refused 12 p)).1 (used h.0 h.1))
+    pub used_is : (p : ℕ) → (withdraw_of bytes n work room ≡ refused LineUsed p) ↔ ((n < L) × LowestAt p)
+    used_is p = (λ e. from ((withdrawn_is (refused LineUsed p)).0 e), λ h. (withdrawn_is (refused LineUsed p)).1 (used h.0 h.1))
       where
-        from : AdmittedWithdrawalMeans bytes T C L n room (Refused 12 p) → (n < L) × LowestAt p
+        from : AdmittedWithdrawalMeans bytes T C L n room (refused LineUsed p) → (n < L) × LowestAt p
         from (used h u) = (h, u)
 
-    pub short_is : (withdraw_of bytes n work room ≡ Refused 13 0) ↔ ((n < L) × Free × (room < new_length T C L))
+    pub short_is : (withdraw_of bytes n work room ≡ refused Room 0) ↔ ((n < L) × Free × (room < new_length T C L))
     short_is = (
-      λ e. from ((withdrawn_is (Refused 13 0)).0 e),
-      λ h. (withdrawn_is (Refused 13 0)).1 (short h.0 h.1 h.2),
+      λ e. from ((withdrawn_is (refused Room 0)).0 e),
+      λ h. (withdrawn_is (refused Room 0)).1 (short h.0 h.1 h.2),
     )
       where
-        from : {p : ℕ} → AdmittedWithdrawalMeans bytes T C L n room (Refused 13 p)
+        from : {p : ℕ} → AdmittedWithdrawalMeans bytes T C L n room (refused Room p)
             → (n < L) × Free × (room < new_length T C L)
         from (short h u k) = (h, u, k)
 
-    pub written_is : (withdraw_of bytes n work room ≡ Written (new_length T C L))
+    pub written_is : (withdraw_of bytes n work room ≡ Ok (new_length T C L))
         ↔ ((n < L) × Free × (new_length T C L ≤ room))
     written_is = (λ e. from ((withdrawn_is _).0 e), λ h. (withdrawn_is _).1 (written h.0 h.1 h.2))
       where
-        from : {l : ℕ} → AdmittedWithdrawalMeans bytes T C L n room (Written l)
+        from : {l : ℕ} → AdmittedWithdrawalMeans bytes T C L n room (Ok l)
             → (n < L) × Free × (new_length T C L ≤ room)
         from (written h u k) = (h, u, k)

@@ -1,8 +1,8 @@
 -- Accepted sheets and what they state: document 01, "Derivations that fit".
-use Rattle.std.specs.Prelude.{◌≡◌, List, ℕ, ◌≤◌}
+use Rattle.std.specs.Prelude.{◌≡◌, List, ℕ, ◌≤◌, Ok}
 use Rattle.terms.specs.Lists.{AllBelow, listed}
 use Rattle.rules.specs.Judgment.{Judgment}
-use Rattle.sheets.specs.declared.admission.Admission.TheVariants.{Accepted}
+use Rattle.sheets.specs.Refusals.{counts}
 use Rattle.sheets.specs.Layout.{trailer_of}
 use Rattle.sheets.specs.Lines.{stated_at}
 use Rattle.sheets.specs.Admission.{admit_of}
@@ -17,7 +17,7 @@ pub record IsAccepted (b : List ℕ) : Type 0 where
   pub T : ℕ
   pub C : ℕ
   pub L : ℕ
-  pub answer : (work : ℕ) → T ≤ work → admit_of b work ≡ Accepted T C L
+  pub answer : (work : ℕ) → T ≤ work → admit_of b work ≡ Ok (counts T C L)
 
 -- "A sheet states its lines' judgments in line order", each read as plain terms; the counts are those of the trailer
 unfoldable pub stated_by : List ℕ → List Judgment

@@ -1,15 +1,14 @@
 -- What a batch of searches answers, and what it leaves in the buffer of answers: document 02, A7. All goes through the
 -- single search (`find_of`).
-use Rattle.std.specs.Prelude.{◌≡◌, true, false, List, map, ℕ, ◌*◌, ◌/◌, ◌≤◌, ◌<◌, ltb, length, get_or, drop}
+use Rattle.std.specs.Prelude.{◌≡◌, true, false, List, map, ℕ, ◌*◌, ◌/◌, ◌≤◌, ◌<◌, ltb, length, get_or, drop, Result, Ok, Err}
 use Rattle.terms.specs.Lists.{listed}
 use Rattle.terms.specs.Buffers.{over}
-use Rattle.sheets.specs.declared.admission.Admission.{Admission}
-use Rattle.sheets.specs.declared.admission.Admission.TheVariants.{Accepted, Refused as not_admitted}
+use Rattle.sheets.specs.declared.refusals.Counts.{Counts}
+use Rattle.sheets.specs.declared.refusals.Fault.{Fault}
+use Rattle.sheets.specs.declared.refusals.Fault.TheVariants.{NotStated, AnswerRoom}
+use Rattle.sheets.specs.declared.refusals.Refusal.{Refusal}
 use Rattle.sheets.specs.declared.finding.Wanted.{Wanted}
-use Rattle.sheets.specs.declared.finding.Found.{Found}
-use Rattle.sheets.specs.declared.finding.Found.TheVariants.{Line, Refused as not_found}
-use Rattle.sheets.specs.declared.batch.Batch.{Batch}
-use Rattle.sheets.specs.declared.batch.Batch.TheVariants.{Answered, Refused}
+use Rattle.sheets.specs.Refusals.{refused}
 use Rattle.sheets.specs.Admission.{admit_of}
 use Rattle.sheets.specs.Good.{Good, FirstFault}
 use Rattle.sheets.specs.Finding.{find_of}
@@ -31,9 +30,9 @@ unfoldable pub wanted_in : List ℕ → List Wanted
 wanted_in numbers = listed (λ i. wanted_of (drop (5 * i) numbers)) (length numbers / 5)
 
 -- "Each answer is the line number that a single search gives, or 65,535 where a single search gives 14"
-unfoldable pub answer_for : Found → ℕ
-answer_for (Line line) = line
-answer_for (not_found number place) = 65535
+unfoldable pub answer_for : Result ℕ Refusal → ℕ
+answer_for (Ok line) = line
+answer_for (Err _) = 65535
 
 -- the answers for a list, in order
 abbrev pub search_answers : List ℕ → ℕ → List Wanted → List ℕ
@@ -41,19 +40,18 @@ search_answers bytes work ws = map (λ w. answer_for (find_of bytes work w)) ws
 
 -- "The batch returns the list's length". "It refuses an answer buffer shorter than the list with 19, after admission's
 -- own refusals"
-unfoldable pub batch_after : ℕ → ℕ → Admission → Batch
-batch_after count room (not_admitted number place) = Refused number place
-batch_after count room (Accepted terms contexts lines) =
-    elim (ltb room count) [ true ↦ Refused 19 0 | false ↦ Answered count ]
+unfoldable pub batch_after : ℕ → ℕ → Result Counts Refusal → Result ℕ Refusal
+batch_after count room (Err r) = Err r
+batch_after count room (Ok _) = elim (ltb room count) [ true ↦ refused AnswerRoom 0 | false ↦ Ok count ]
 
 -- the answer for a sheet, a work buffer of so many words, so many judgments and room for so many answers
-unfoldable pub batch_of : List ℕ → ℕ → ℕ → ℕ → Batch
+unfoldable pub batch_of : List ℕ → ℕ → ℕ → ℕ → Result ℕ Refusal
 batch_of bytes work count room = batch_after count room (admit_of bytes work)
 
 -- "answers beyond it are untouched"; a refusal "leaves that buffer untouched"
-unfoldable pub answers_from : List ℕ → List ℕ → Batch → List ℕ
-answers_from answers before (Refused number place) = before
-answers_from answers before (Answered count) = over answers before
+unfoldable pub answers_from : List ℕ → List ℕ → Result ℕ Refusal → List ℕ
+answers_from answers before (Err _) = before
+answers_from answers before (Ok _) = over answers before
 
 -- the buffer of answers afterwards, for a sheet, a work buffer of so many words, the judgments and the buffer before
 unfoldable pub answers_after : List ℕ → ℕ → List Wanted → List ℕ → List ℕ
@@ -61,16 +59,16 @@ answers_after bytes work ws before =
     answers_from (search_answers bytes work ws) before (batch_of bytes work (length ws) (length before))
 
 -- what each answer of a batch means; there is no other
-pub data BatchMeans (bytes : List ℕ) (work count room : ℕ) : Batch → Type 0 where
-  faulty : {number place : ℕ} → FirstFault bytes work number place
-      → BatchMeans bytes work count room (Refused number place)
-  short : {T C L : ℕ} → Good bytes T C L → T ≤ work → room < count → BatchMeans bytes work count room (Refused 19 0)
-  all : {T C L : ℕ} → Good bytes T C L → T ≤ work → count ≤ room → BatchMeans bytes work count room (Answered count)
+pub data BatchMeans (bytes : List ℕ) (work count room : ℕ) : Result ℕ Refusal → Type 0 where
+  faulty : {fault : Fault} {place : ℕ} → FirstFault bytes work fault place
+      → BatchMeans bytes work count room (refused fault place)
+  short : {T C L : ℕ} → Good bytes T C L → T ≤ work → room < count → BatchMeans bytes work count room (refused AnswerRoom 0)
+  all : {T C L : ℕ} → Good bytes T C L → T ≤ work → count ≤ room → BatchMeans bytes work count room (Ok count)
 
 -- what the answer for one judgment means: a line is never 65,535, so none means two things
 pub data SearchMeans (bytes : List ℕ) (work : ℕ) (w : Wanted) : ℕ → Type 0 where
-  stated : {line : ℕ} → line < 1024 → FoundMeans bytes work w (Line line) → SearchMeans bytes work w line
-  absent : FoundMeans bytes work w (not_found 14 0) → SearchMeans bytes work w 65535
+  stated : {line : ℕ} → line < 1024 → FoundMeans bytes work w (Ok line) → SearchMeans bytes work w line
+  absent : FoundMeans bytes work w (refused NotStated 0) → SearchMeans bytes work w 65535
 
 -- what the buffer of answers holds after a batch that is not refused
 pub record AnswersLeft (bytes : List ℕ) (work : ℕ) (ws : List Wanted) (before after : List ℕ) : Type 0 where

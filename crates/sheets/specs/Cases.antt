@@ -1,11 +1,20 @@
 -- M1 to M11 of document 01, "Sample sheets", as one table of cases: a sheet, a work buffer and, for a withdrawal, a
 -- line's number and an output; what is answered, and what is left in both.
-use Rattle.std.specs.Prelude.{List, [], ◌∷◌, ◌++◌, ℕ, zero, suc, ◌+◌, ◌*◌, length, set, replicate}
-use Rattle.sheets.specs.declared.admission.Admission.{Admission}
-use Rattle.sheets.specs.declared.admission.Admission.TheVariants.{Accepted, Refused}
+use Rattle.std.specs.Prelude.{List, [], ◌∷◌, ◌++◌, ℕ, zero, suc, ◌+◌, ◌*◌, length, set, replicate, Result, Ok}
+use Rattle.terms.specs.declared.sizes.RowFault.TheVariants.{Malformed, TooLarge}
+use Rattle.sheets.specs.declared.refusals.Counts.{Counts}
+use Rattle.sheets.specs.declared.refusals.Fault.TheVariants.{
+  Length,
+  Counts as CountsFault,
+  Term,
+  Numbers,
+  NoInstance,
+  NoLine,
+  LineUsed,
+}
+use Rattle.sheets.specs.declared.refusals.Refusal.{Refusal}
+use Rattle.sheets.specs.Refusals.{refused, counts}
 use Rattle.sheets.specs.Admission.{admit_of, work_after}
-use Rattle.sheets.specs.declared.withdrawal.Withdrawal.{Withdrawal}
-use Rattle.sheets.specs.declared.withdrawal.Withdrawal.TheVariants.{Written, Refused as no_withdrawal}
 use Rattle.terms.specs.Words.{bytes_of}
 use Rattle.sheets.specs.Withdrawal.{withdraw_of, out_after}
 
@@ -60,8 +69,8 @@ doubled_sizes = 1 ∷ 3 ∷ 7 ∷ 15 ∷ 31 ∷ 63 ∷ 127 ∷ 255 ∷ 511 ∷ 1
 -- what is asked of a sheet, with the answer: its admission, or the withdrawal of a line into an output, with what that
 -- holds afterwards
 pub data Request : Type 0 where
-  admission : Admission → Request
-  withdrawal : (line : ℕ) (out : List ℕ) → Withdrawal → (after : List ℕ) → Request
+  admission : Result Counts Refusal → Request
+  withdrawal : (line : ℕ) (out : List ℕ) → Result ℕ Refusal → (after : List ℕ) → Request
 
 pub record Case : Type 0 where
   pub sheet : List ℕ
@@ -93,28 +102,28 @@ sizes_of_s = 1 ∷ 1 ∷ 1 ∷ 2 ∷ 3 ∷ 9 ∷ []
 unfoldable pub cases : List Case
 cases =
     -- M1 S admitted
-    record { sheet = bytes_of words_of_s; work = nines; asked = admission (Accepted 5 1 5); left = sizes_of_s } ∷
+    record { sheet = bytes_of words_of_s; work = nines; asked = admission (Ok (counts 5 1 5)); left = sizes_of_s } ∷
     -- M2 a bare correct trailer with all counts 0: admitted
-    record { sheet = bytes_of (0 ∷ 0 ∷ 0 ∷ 1 ∷ 0 ∷ 0 ∷ 0 ∷ 0x4C44 ∷ []); work = []; asked = admission (Accepted 0 0 0); left = [] } ∷
+    record { sheet = bytes_of (0 ∷ 0 ∷ 0 ∷ 1 ∷ 0 ∷ 0 ∷ 0 ∷ 0x4C44 ∷ []); work = []; asked = admission (Ok (counts 0 0 0)); left = [] } ∷
     -- M3 15 bytes: 1
-    record { sheet = replicate 15 0; work = nines; asked = admission (Refused 1 0); left = nines } ∷
+    record { sheet = replicate 15 0; work = nines; asked = admission (refused Length 0); left = nines } ∷
     -- M4 S with L written 6: 3, place 0
-    record { sheet = bytes_of (set words_of_s count_of_lines 6); work = nines; asked = admission (Refused 3 0); left = nines } ∷
+    record { sheet = bytes_of (set words_of_s count_of_lines 6); work = nines; asked = admission (refused CountsFault 0); left = nines } ∷
     -- M5 a sheet of one term, a variable, and nothing else: index 4,095 admitted, 4,096 gives 5, place 0
-    record { sheet = bytes_of (variable_alone 4095); work = 9 ∷ 9 ∷ []; asked = admission (Accepted 1 0 0); left = 1 ∷ 9 ∷ [] } ∷
-    record { sheet = bytes_of (variable_alone 4096); work = 9 ∷ 9 ∷ []; asked = admission (Refused 5 0); left = 9 ∷ 9 ∷ [] } ∷
+    record { sheet = bytes_of (variable_alone 4095); work = 9 ∷ 9 ∷ []; asked = admission (Ok (counts 1 0 0)); left = 1 ∷ 9 ∷ [] } ∷
+    record { sheet = bytes_of (variable_alone 4096); work = 9 ∷ 9 ∷ []; asked = admission (refused (Term Malformed) 0); left = 9 ∷ 9 ∷ [] } ∷
     -- M6 from Nat, each next row application(k-1, k-1): row 15 has size 65,535, row 16 gives 7
-    record { sheet = bytes_of (doubling 15); work = replicate 17 9; asked = admission (Accepted 16 0 0); left = doubled_sizes ++ 9 ∷ [] } ∷
-    record { sheet = bytes_of (doubling 16); work = replicate 18 9; asked = admission (Refused 7 16); left = doubled_sizes ++ 9 ∷ 9 ∷ [] } ∷
+    record { sheet = bytes_of (doubling 15); work = replicate 17 9; asked = admission (Ok (counts 16 0 0)); left = doubled_sizes ++ 9 ∷ [] } ∷
+    record { sheet = bytes_of (doubling 16); work = replicate 18 9; asked = admission (refused (Term TooLarge) 16); left = doubled_sizes ++ 9 ∷ 9 ∷ [] } ∷
     -- M7 line 4 of S citing itself: 9, place 4
-    record { sheet = bytes_of (set words_of_s (word_of_line 4 6) 4); work = nines; asked = admission (Refused 9 4); left = sizes_of_s } ∷
+    record { sheet = bytes_of (set words_of_s (word_of_line 4 6) 4); work = nines; asked = admission (refused Numbers 4); left = sizes_of_s } ∷
     -- M8 line 1 claiming U_0 : U_0 by rule 7: 10, place 1
-    record { sheet = bytes_of (set (set words_of_s (word_of_line 1 1) 7) (word_of_line 1 3) 1); work = nines; asked = admission (Refused 10 1); left = sizes_of_s } ∷
+    record { sheet = bytes_of (set (set words_of_s (word_of_line 1 1) 7) (word_of_line 1 3) 1); work = nines; asked = admission (refused NoInstance 1); left = sizes_of_s } ∷
     -- M9 S without line 4: 150 bytes, and these are admitted
-    record { sheet = bytes_of words_of_s; work = nines; asked = withdrawal 4 (replicate 151 7) (Written 150) (bytes_of words_of_m9 ++ 7 ∷ []); left = sizes_of_s } ∷
-    record { sheet = bytes_of words_of_m9; work = nines; asked = admission (Accepted 5 1 4); left = sizes_of_s } ∷
+    record { sheet = bytes_of words_of_s; work = nines; asked = withdrawal 4 (replicate 151 7) (Ok 150) (bytes_of words_of_m9 ++ 7 ∷ []); left = sizes_of_s } ∷
+    record { sheet = bytes_of words_of_m9; work = nines; asked = admission (Ok (counts 5 1 4)); left = sizes_of_s } ∷
     -- M10 withdrawing line 2 of S: 12, place 3
-    record { sheet = bytes_of words_of_s; work = nines; asked = withdrawal 2 (replicate 170 7) (no_withdrawal 12 3) (replicate 170 7); left = sizes_of_s } ∷
+    record { sheet = bytes_of words_of_s; work = nines; asked = withdrawal 2 (replicate 170 7) (refused LineUsed 3) (replicate 170 7); left = sizes_of_s } ∷
     -- M11 withdrawing line 5: 11
-    record { sheet = bytes_of words_of_s; work = nines; asked = withdrawal 5 (replicate 170 7) (no_withdrawal 11 5) (replicate 170 7); left = sizes_of_s } ∷
+    record { sheet = bytes_of words_of_s; work = nines; asked = withdrawal 5 (replicate 170 7) (refused NoLine 5) (replicate 170 7); left = sizes_of_s } ∷
     []

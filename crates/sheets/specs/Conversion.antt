@@ -1,15 +1,15 @@
 -- What the converter answers, and the sheet that it writes: document 02, A11.
-use Rattle.std.specs.Prelude.{◌≡◌, Bool, true, false, ◌&&◌, List, ℕ, ◌+◌, ◌-◌, ◌*◌, ◌/◌, ◌%◌, ◌≤◌, ◌<◌, leb, ltb, eqb, length, take}
+use Rattle.std.specs.Prelude.{◌≡◌, Bool, true, false, ◌&&◌, List, ℕ, ◌+◌, ◌-◌, ◌*◌, ◌/◌, ◌%◌, ◌≤◌, ◌<◌, leb, ltb, eqb, length, take, Result, Ok, Err}
 use Rattle.terms.specs.Words.{word_at, bytes_of}
 use Rattle.terms.specs.Search.{first_at}
 use Rattle.terms.specs.Buffers.{over}
 use Rattle.terms.specs.Lists.{listed}
 use Rattle.rules.specs.Editions.{motive_asked, AsksMotive}
 use Rattle.rules.specs.Motives.{gives_motive, GivesMotive}
-use Rattle.sheets.specs.declared.admission.Admission.{Admission}
-use Rattle.sheets.specs.declared.admission.Admission.TheVariants.{Accepted, Refused as not_admitted}
-use Rattle.sheets.specs.declared.conversion.Conversion.{Conversion}
-use Rattle.sheets.specs.declared.conversion.Conversion.TheVariants.{Written, Refused}
+use Rattle.sheets.specs.declared.refusals.Counts.{Counts}
+use Rattle.sheets.specs.declared.refusals.Fault.TheVariants.{Room, UpToDate, NoMotive}
+use Rattle.sheets.specs.declared.refusals.Refusal.{Refusal}
+use Rattle.sheets.specs.Refusals.{refused}
 use Rattle.sheets.specs.Layout.{edition_of, trailer_of}
 use Rattle.sheets.specs.Lines.{line_at, stated_at}
 use Rattle.sheets.specs.Admission.{admit_of}
@@ -72,30 +72,30 @@ converted bytes = sheet_converted bytes (trailer_of bytes).terms (trailer_of byt
 
 -- "an edition 3 sheet with 20, place 0, then a line without such an earlier line with 21, the lowest as place, then a
 -- short output with 13"; else the length, which is the same
-unfoldable pub convert_admitted : List ℕ → ℕ → ℕ → ℕ → ℕ → Conversion
+unfoldable pub convert_admitted : List ℕ → ℕ → ℕ → ℕ → ℕ → Result ℕ Refusal
 convert_admitted bytes T C L room =
     elim (leb new_edition (edition_of bytes)) [
-      | true ↦ Refused 20 0
+      | true ↦ refused UpToDate 0
       | false ↦
           elim (ltb (first_without bytes T C L) L) [
-            | true ↦ Refused 21 (first_without bytes T C L)
-            | false ↦ elim (ltb room (length bytes)) [ true ↦ Refused 13 0 | false ↦ Written (length bytes) ]
+            | true ↦ refused NoMotive (first_without bytes T C L)
+            | false ↦ elim (ltb room (length bytes)) [ true ↦ refused Room 0 | false ↦ Ok (length bytes) ]
           ]
     ]
 
 -- "After admission"
-unfoldable pub convert_after : List ℕ → ℕ → Admission → Conversion
-convert_after bytes room (not_admitted number place) = Refused number place
-convert_after bytes room (Accepted T C L) = convert_admitted bytes T C L room
+unfoldable pub convert_after : List ℕ → ℕ → Result Counts Refusal → Result ℕ Refusal
+convert_after bytes room (Err r) = Err r
+convert_after bytes room (Ok n) = convert_admitted bytes n.terms n.contexts n.lines room
 
 -- the answer for a sheet, a work buffer of so many words and an output of so many bytes
-unfoldable pub convert_of : List ℕ → ℕ → ℕ → Conversion
+unfoldable pub convert_of : List ℕ → ℕ → ℕ → Result ℕ Refusal
 convert_of bytes work room = convert_after bytes room (admit_of bytes work)
 
 -- where this new sheet is written; on any refusal the output is untouched
-unfoldable pub output_from : List ℕ → List ℕ → Conversion → List ℕ
-output_from new before (Written _) = over new before
-output_from new before (Refused _ _) = before
+unfoldable pub output_from : List ℕ → List ℕ → Result ℕ Refusal → List ℕ
+output_from new before (Ok _) = over new before
+output_from new before (Err _) = before
 
 -- the output afterwards, for a sheet, a work buffer of so many words and the output before
 unfoldable pub converted_after : List ℕ → ℕ → List ℕ → List ℕ
@@ -132,20 +132,20 @@ module _ (bytes : List ℕ) (T C : ℕ) where
     pub lowest : AllMotives n
 
 -- what each answer means for an accepted sheet with these counts; there is no other
-pub data AdmittedConversionMeans (bytes : List ℕ) (T C L room : ℕ) : Conversion → Type 0 where
-  asks_already : new_edition ≤ edition_of bytes → AdmittedConversionMeans bytes T C L room (Refused 20 0)
+pub data AdmittedConversionMeans (bytes : List ℕ) (T C L room : ℕ) : Result ℕ Refusal → Type 0 where
+  asks_already : new_edition ≤ edition_of bytes → AdmittedConversionMeans bytes T C L room (refused UpToDate 0)
   no_motive : {n : ℕ} → edition_of bytes < new_edition → LowestWithout bytes T C L n
-      → AdmittedConversionMeans bytes T C L room (Refused 21 n)
+      → AdmittedConversionMeans bytes T C L room (refused NoMotive n)
   no_room : edition_of bytes < new_edition → AllMotives bytes T C L → room < length bytes
-      → AdmittedConversionMeans bytes T C L room (Refused 13 0)
+      → AdmittedConversionMeans bytes T C L room (refused Room 0)
   whole : edition_of bytes < new_edition → AllMotives bytes T C L → length bytes ≤ room
-      → AdmittedConversionMeans bytes T C L room (Written (length bytes))
+      → AdmittedConversionMeans bytes T C L room (Ok (length bytes))
 
 -- "every line keeps its number and judgment", "and what it writes is admitted": if a length is answered, the old sheet
 -- and the new one, the output up to that length, are accepted, the new one is of edition 3, and it states the same
 -- judgments line for line
-unfoldable pub KeepsEveryLine : List ℕ → List ℕ → Conversion → Type 0
-KeepsEveryLine old after (Refused _ _) = Unit {0}
-KeepsEveryLine old after (Written new) =
+unfoldable pub KeepsEveryLine : List ℕ → List ℕ → Result ℕ Refusal → Type 0
+KeepsEveryLine old after (Err _) = Unit {0}
+KeepsEveryLine old after (Ok new) =
     IsAccepted old × IsAccepted (take new after) × (edition_of (take new after) ≡ new_edition)
     × (stated_by (take new after) ≡ stated_by old)

@@ -1,9 +1,10 @@
 -- Number 21 by example: document 02, A11. No admitted sheet has a line that is refused with it, so the lines here only
 -- keep the layout; what is asked is what the converter asks behind the admission.
-use Rattle.std.specs.Prelude.{List, [], ◌∷◌, ℕ}
+use Rattle.std.specs.Prelude.{List, [], ◌∷◌, ℕ, Result}
 use Rattle.terms.specs.Words.{bytes_of}
-use Rattle.sheets.specs.declared.conversion.Conversion.{Conversion}
-use Rattle.sheets.specs.declared.conversion.Conversion.TheVariants.{Refused}
+use Rattle.sheets.specs.declared.refusals.Fault.TheVariants.{Room, UpToDate, NoMotive}
+use Rattle.sheets.specs.declared.refusals.Refusal.{Refusal}
+use Rattle.sheets.specs.Refusals.{refused}
 use Rattle.sheets.specs.Conversion.{convert_admitted}
 
 -- four lines in this edition, the last of which has no earlier line for its motive
@@ -21,10 +22,10 @@ without_motive edition =
     4 ∷ 1 ∷ 4 ∷ edition ∷ 124 ∷ 84 ∷ 80 ∷ 0x4C44 ∷ []
 
 -- the answers for editions 2 and 3, each with an output of no bytes, and what they are to be
-unfoldable pub conversion_answers : List Conversion
+unfoldable pub conversion_answers : List (Result ℕ Refusal)
 conversion_answers =
     convert_admitted (bytes_of (without_motive 2)) 4 1 4 0 ∷ convert_admitted (bytes_of (without_motive 3)) 4 1 4 0 ∷
     convert_admitted (bytes_of (without_motive 2)) 4 1 3 0 ∷ []
 
-unfoldable pub conversion_expected : List Conversion
-conversion_expected = Refused 21 3 ∷ Refused 20 0 ∷ Refused 13 0 ∷ []
+unfoldable pub conversion_expected : List (Result ℕ Refusal)
+conversion_expected = refused NoMotive 3 ∷ refused UpToDate 0 ∷ refused Room 0 ∷ []

@@ -1,9 +1,8 @@
 -- What a conversion leaves in the output, stated by index: document 02, A11. Laws conversion_left, conversion_only: it
 -- is just this.
-use Rattle.std.specs.Prelude.{◌≡◌, List, ℕ, suc, ◌+◌, ◌*◌, ◌≤◌, ◌<◌, length, get_or, take}
+use Rattle.std.specs.Prelude.{◌≡◌, List, ℕ, suc, ◌+◌, ◌*◌, ◌≤◌, ◌<◌, length, get_or, take, Result, Ok, Err}
 use Rattle.terms.specs.Words.{word_at}
-use Rattle.sheets.specs.declared.conversion.Conversion.{Conversion}
-use Rattle.sheets.specs.declared.conversion.Conversion.TheVariants.{Written, Refused}
+use Rattle.sheets.specs.declared.refusals.Refusal.{Refusal}
 use Rattle.sheets.specs.Layout.{lines_in, trailer_of, edition_of}
 use Rattle.sheets.specs.Lines.{line_word}
 use Rattle.sheets.specs.GoodLayout.{LaidOut}
@@ -34,6 +33,6 @@ pub record ConvertedLeft (bytes before after : List ℕ) (new : ℕ) : Type 0 wh
   pub beyond : (i : ℕ) → new ≤ i → get_or after i 0 ≡ get_or before i 0
 
 -- what each answer leaves, for a sheet and the output before and after
-unfoldable pub ConversionLeft : List ℕ → List ℕ → List ℕ → Conversion → Type 0
-ConversionLeft bytes before after (Written new) = ConvertedLeft bytes before after new
-ConversionLeft bytes before after (Refused _ _) = after ≡ before
+unfoldable pub ConversionLeft : List ℕ → List ℕ → List ℕ → Result ℕ Refusal → Type 0
+ConversionLeft bytes before after (Ok new) = ConvertedLeft bytes before after new
+ConversionLeft bytes before after (Err _) = after ≡ before

@@ -1,16 +1,15 @@
 -- The easiest of the lines that are chosen: document 02, A8, "the line of least height; among those the highest
 -- number".
-use Rattle.std.specs.Prelude.{◌≡◌, Bool, true, false, ℕ, zero, suc, ◌≤◌, ◌<◌, leb}
-use Rattle.std.proofs.Math.Option.{Option, none, some}
+use Rattle.std.specs.Prelude.{◌≡◌, Bool, true, false, ℕ, zero, suc, ◌≤◌, ◌<◌, leb, Option, Some, None}
 
 -- line n against the best line before it: the later one, if it is no higher
 unfoldable pub better : (ℕ → ℕ) → Option ℕ → ℕ → Option ℕ
-better height none n = some n
-better height (some m) n = elim (leb (height n) (height m)) [ true ↦ some n | false ↦ some m ]
+better height None n = Some n
+better height (Some m) n = elim (leb (height n) (height m)) [ true ↦ Some n | false ↦ Some m ]
 
 -- the easiest of the first n lines that are chosen
 unfoldable pub easiest : (ℕ → Bool) → (ℕ → ℕ) → ℕ → Option ℕ
-easiest chosen height zero = none
+easiest chosen height zero = None
 easiest chosen height (suc n) =
     elim (chosen n) [ true ↦ better height (easiest chosen height n) n | false ↦ easiest chosen height n ]
 

@@ -1,13 +1,12 @@
 -- What a search for a judgment answers: document 01, "What the desk says", and 02, A8; and what it means, without
 -- computing, that a line is the easiest with the numbers. The search itself stands apart from admission.
-use Rattle.std.specs.Prelude.{◌≡◌, Bool, ◌&&◌, List, ℕ, eqb}
-use Rattle.std.proofs.Math.Option.{Option, none, some}
+use Rattle.std.specs.Prelude.{◌≡◌, Bool, ◌&&◌, List, ℕ, eqb, Option, Some, None, Result, Ok, Err}
 use Rattle.rules.specs.declared.judgments.LineJudgment.{LineJudgment}
-use Rattle.sheets.specs.declared.admission.Admission.{Admission}
-use Rattle.sheets.specs.declared.admission.Admission.TheVariants.{Accepted, Refused as not_admitted}
+use Rattle.sheets.specs.declared.refusals.Counts.{Counts}
+use Rattle.sheets.specs.declared.refusals.Fault.TheVariants.{NotStated}
+use Rattle.sheets.specs.declared.refusals.Refusal.{Refusal}
 use Rattle.sheets.specs.declared.finding.Wanted.{Wanted}
-use Rattle.sheets.specs.declared.finding.Found.{Found}
-use Rattle.sheets.specs.declared.finding.Found.TheVariants.{Line, Refused}
+use Rattle.sheets.specs.Refusals.{refused}
 use Rattle.sheets.specs.Layout.{edition_of, lines_in}
 use Rattle.sheets.specs.Lines.{line_of, judgment_of}
 use Rattle.sheets.specs.Heights.{line_height}
@@ -19,22 +18,21 @@ unfoldable pub has_numbers : LineJudgment → Wanted → Bool
 has_numbers j w = eqb j.form w.form && eqb j.context w.context && eqb j.s1 w.s1 && eqb j.s2 w.s2 && eqb j.s3 w.s3
 
 -- the line that was found, or number 14
-unfoldable pub found_line : Option ℕ → Found
-found_line none = Refused 14 0
-found_line (some n) = Line n
+unfoldable pub found_line : Option ℕ → Result ℕ Refusal
+found_line None = refused NotStated 0
+found_line (Some n) = Ok n
 
 -- the easiest of the first count lines of a sheet of this edition that has the numbers; number 14 if none has
-unfoldable pub search_lines : ℕ → List ℕ → ℕ → Wanted → Found
+unfoldable pub search_lines : ℕ → List ℕ → ℕ → Wanted → Result ℕ Refusal
 search_lines edition lines count w =
     found_line (easiest (λ n. has_numbers (judgment_of (line_of edition lines n)) w) (line_height edition lines) count)
 
 -- "Withdrawal and finding admit the sheet first and return its refusal"
-unfoldable pub find_after : List ℕ → Wanted → Admission → Found
-find_after bytes w (not_admitted number place) = Refused number place
-find_after bytes w (Accepted terms contexts lines) =
-    search_lines (edition_of bytes) (lines_in bytes terms contexts) lines w
+unfoldable pub find_after : List ℕ → Wanted → Result Counts Refusal → Result ℕ Refusal
+find_after bytes w (Err r) = Err r
+find_after bytes w (Ok n) = search_lines (edition_of bytes) (lines_in bytes n.terms n.contexts) n.lines w
 
-unfoldable pub find_of : List ℕ → ℕ → Wanted → Found
+unfoldable pub find_of : List ℕ → ℕ → Wanted → Result ℕ Refusal
 find_of bytes work w = find_after bytes w (admit_of bytes work)
 
 -- a judgment has the five numbers that are looked for

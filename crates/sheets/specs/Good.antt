@@ -1,8 +1,12 @@
 -- What it means that a sheet is good, and what it means that a check is the first to fail: document 01, "The sheet" and
 -- "What the desk says", stated by index and without computing. Admission answers exactly for these (demand 1).
 use Rattle.std.specs.Prelude.{List, ℕ, ◌≤◌, ◌<◌}
+use Rattle.terms.specs.Faults.{number_of as row_number}
 use Rattle.terms.specs.Table.{TermTable, FirstFaultyRow}
+use Rattle.terms.specs.declared.sizes.RowFault.{RowFault}
 use Rattle.rules.specs.Contexts.{ContextTable, FirstFaultyContext}
+use Rattle.sheets.specs.declared.refusals.Fault.{Fault}
+use Rattle.sheets.specs.declared.refusals.Fault.TheVariants.{Term, Context}
 use Rattle.sheets.specs.Layout.{contexts_in}
 use Rattle.sheets.specs.GoodLayout.{LaidOut, LayoutFault}
 use Rattle.sheets.specs.GoodLines.{GoodLine, FirstFaultyLine}
@@ -25,12 +29,12 @@ pub record Good (bytes : List ℕ) (T C L : ℕ) : Type 0 where
   pub tables : WellFormedTables bytes T C L
   pub lines : (n : ℕ) → n < L → GoodLine bytes T C n
 
--- The refusal (number, place): everything that comes before in the order holds, and that check fails at that place.
-pub data FirstFault (bytes : List ℕ) (work : ℕ) : ℕ → ℕ → Type 0 where
-  in_layout : {number : ℕ} → LayoutFault bytes work number → FirstFault bytes work number 0
-  in_terms : {number place : ℕ} (T C L : ℕ) → LaidOut bytes T C L → T ≤ work
-      → FirstFaultyRow bytes T number place → FirstFault bytes work number place
+-- The refusal (fault, place): everything that comes before in the order holds, and that check fails at that place.
+pub data FirstFault (bytes : List ℕ) (work : ℕ) : Fault → ℕ → Type 0 where
+  in_layout : {fault : Fault} → LayoutFault bytes work fault → FirstFault bytes work fault 0
+  in_terms : {row : RowFault} {place : ℕ} (T C L : ℕ) → LaidOut bytes T C L → T ≤ work
+      → FirstFaultyRow bytes T (row_number row) place → FirstFault bytes work (Term row) place
   in_contexts : {place : ℕ} (T C L : ℕ) → LaidOut bytes T C L → T ≤ work → TermTable bytes T
-      → FirstFaultyContext (contexts_in bytes T) T C place → FirstFault bytes work 8 place
-  in_lines : {number place : ℕ} (T C L : ℕ) → WellFormedTables bytes T C L → T ≤ work
-      → FirstFaultyLine bytes T C L number place → FirstFault bytes work number place
+      → FirstFaultyContext (contexts_in bytes T) T C place → FirstFault bytes work Context place
+  in_lines : {fault : Fault} {place : ℕ} (T C L : ℕ) → WellFormedTables bytes T C L → T ≤ work
+      → FirstFaultyLine bytes T C L fault place → FirstFault bytes work fault place

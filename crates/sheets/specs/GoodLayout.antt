@@ -3,6 +3,8 @@
 use Rattle.std.specs.Prelude.{◌≡◌, List, ℕ, ◌+◌, ◌≤◌, ◌<◌, length}
 use Rattle.rules.specs.Editions.{IsEdition}
 use Rattle.sheets.specs.declared.layout.Trailer.{Trailer}
+use Rattle.sheets.specs.declared.refusals.Fault.{Fault}
+use Rattle.sheets.specs.declared.refusals.Fault.TheVariants.{Length, Mark, Counts as CountsFault, WorkBuffer}
 use Rattle.sheets.specs.Layout.{trailer_of, edition_of, distance_to_lines, distance_to_contexts, distance_to_terms}
 
 -- the trailer of a sheet of this edition with these counts
@@ -36,9 +38,9 @@ RightLength bytes = (16 ≤ length bytes) × (length bytes ≤ 52240)
 abbrev pub Marked : Trailer → Type 0
 Marked t = (t.mark ≡ 0x4C44) × IsEdition t.edition
 
--- the first of 1 to 4 that fails, with a work buffer of the given number of words; there is no other number
-pub data LayoutFault (bytes : List ℕ) (work : ℕ) : ℕ → Type 0 where
-  wrong_length : (RightLength bytes → ⊥) → LayoutFault bytes work 1
-  not_marked : RightLength bytes → (Marked (trailer_of bytes) → ⊥) → LayoutFault bytes work 2
-  disagreeing : RightLength bytes → Marked (trailer_of bytes) → ((T C L : ℕ) → LaidOut bytes T C L → ⊥) → LayoutFault bytes work 3
-  short_work : (T C L : ℕ) → LaidOut bytes T C L → work < T → LayoutFault bytes work 4
+-- the first of numbers 1 to 4 that fails, with a work buffer of the given number of words; there is no other fault
+pub data LayoutFault (bytes : List ℕ) (work : ℕ) : Fault → Type 0 where
+  wrong_length : (RightLength bytes → ⊥) → LayoutFault bytes work Length
+  not_marked : RightLength bytes → (Marked (trailer_of bytes) → ⊥) → LayoutFault bytes work Mark
+  disagreeing : RightLength bytes → Marked (trailer_of bytes) → ((T C L : ℕ) → LaidOut bytes T C L → ⊥) → LayoutFault bytes work CountsFault
+  short_work : (T C L : ℕ) → LaidOut bytes T C L → work < T → LayoutFault bytes work WorkBuffer

@@ -5,6 +5,8 @@ use Rattle.rules.specs.RuleTable.{IsRule, form_of, premise_count}
 use Rattle.rules.specs.Subjects.{uses_subject, subjects_of}
 use Rattle.rules.specs.Stated.{Numbered}
 use Rattle.sheets.specs.declared.lines.Line.{Line}
+use Rattle.sheets.specs.declared.refusals.Fault.{Fault}
+use Rattle.sheets.specs.declared.refusals.Fault.TheVariants.{Numbers, NoInstance}
 use Rattle.sheets.specs.Lines.{judgment_of, premises_of, line_at, LineFollows}
 
 -- a line that keeps the layout as line n of a sheet with T terms and C contexts
@@ -21,14 +23,14 @@ pub record GoodLine (bytes : List ℕ) (T C n : ℕ) : Type 0 where
   pub ok : LineOk (line_at bytes T C n) n T C
   pub follows : LineFollows bytes T C n
 
--- the first of 9 and 10 that line n fails; there is no other number
-pub data LineFault (bytes : List ℕ) (T C n : ℕ) : ℕ → Type 0 where
-  misfit : (LineOk (line_at bytes T C n) n T C → ⊥) → LineFault bytes T C n 9
-  no_instance : LineOk (line_at bytes T C n) n T C → (LineFollows bytes T C n → ⊥) → LineFault bytes T C n 10
+-- the first of numbers 9 and 10 that line n fails; there is no other fault
+pub data LineFault (bytes : List ℕ) (T C n : ℕ) : Fault → Type 0 where
+  misfit : (LineOk (line_at bytes T C n) n T C → ⊥) → LineFault bytes T C n Numbers
+  no_instance : LineOk (line_at bytes T C n) n T C → (LineFollows bytes T C n → ⊥) → LineFault bytes T C n NoInstance
 
--- line `place` is the first of the first count lines that has a fault, of the given number: the lines before it are
+-- line `place` is the first of the first count lines that has a fault, of the given kind: the lines before it are
 -- good
-pub record FirstFaultyLine (bytes : List ℕ) (T C count number place : ℕ) : Type 0 where
+pub record FirstFaultyLine (bytes : List ℕ) (T C count : ℕ) (fault : Fault) (place : ℕ) : Type 0 where
   pub within : place < count
   pub before : (n : ℕ) → n < place → GoodLine bytes T C n
-  pub fault : LineFault bytes T C place number
+  pub wrong : LineFault bytes T C place fault

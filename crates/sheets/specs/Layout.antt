@@ -1,11 +1,13 @@
 -- The layout of a sheet: document 01, "The sheet", and numbers 1 to 4 of "What the desk says". Terms come first, then
 -- contexts, then lines, then a trailer of 8 words.
-use Rattle.std.specs.Prelude.{Bool, true, false, ◌&&◌, List, ℕ, ◌+◌, ◌-◌, ◌*◌, leb, eqb, length, drop}
+use Rattle.std.specs.Prelude.{Bool, true, false, ◌&&◌, List, ℕ, ◌+◌, ◌-◌, ◌*◌, leb, eqb, length, drop, Result, Ok, Err}
 use Rattle.terms.specs.Words.{word_at}
 use Rattle.rules.specs.Editions.{edition_known}
 use Rattle.sheets.specs.declared.layout.Trailer.{Trailer}
-use Rattle.sheets.specs.declared.layout.Layout.{Layout}
-use Rattle.sheets.specs.declared.layout.Layout.TheVariants.{Counted, Wrong}
+use Rattle.sheets.specs.declared.refusals.Counts.{Counts}
+use Rattle.sheets.specs.declared.refusals.Fault.{Fault}
+use Rattle.sheets.specs.declared.refusals.Fault.TheVariants.{Length, Mark, Counts as CountsFault, WorkBuffer}
+use Rattle.sheets.specs.Refusals.{counts}
 
 -- The terms stand at the head of the bytes, 10 bytes a row; the contexts, 4 bytes a row, behind them; the lines, 20
 -- bytes each, behind these.
@@ -71,17 +73,17 @@ unfoldable pub counts_fit : Trailer → ℕ → Bool
 counts_fit t n = limits_fit t && distances_fit t n
 
 -- numbers 2, 3 and 4 of a trailer, for a length and a number of words in the work buffer
-unfoldable pub trailer_answer : Trailer → ℕ → ℕ → Layout
+unfoldable pub trailer_answer : Trailer → ℕ → ℕ → Result Counts Fault
 trailer_answer t n work =
     elim (mark_fits t) [
-      | false ↦ Wrong 2
+      | false ↦ Err Mark
       | true ↦
           elim (counts_fit t n) [
-            | false ↦ Wrong 3
-            | true ↦ elim (leb t.terms work) [ false ↦ Wrong 4 | true ↦ Counted t.terms t.contexts t.lines ]
+            | false ↦ Err CountsFault
+            | true ↦ elim (leb t.terms work) [ false ↦ Err WorkBuffer | true ↦ Ok (counts t.terms t.contexts t.lines) ]
           ]
     ]
 
 -- the first of 1 to 4 that is broken, or the counts
-unfoldable pub layout_of : List ℕ → ℕ → Layout
-layout_of bytes work = elim (length_fits (length bytes)) [ false ↦ Wrong 1 | true ↦ trailer_answer (trailer_of bytes) (length bytes) work ]
+unfoldable pub layout_of : List ℕ → ℕ → Result Counts Fault
+layout_of bytes work = elim (length_fits (length bytes)) [ false ↦ Err Length | true ↦ trailer_answer (trailer_of bytes) (length bytes) work ]

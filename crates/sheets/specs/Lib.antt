@@ -1,3 +1,4 @@
+pub mod Refusals
 pub mod Layout
 pub mod Lines
 pub mod Citing

@@ -1,6 +1,6 @@
 -- The lines and their check, numbers 9 and 10: document 01, "The sheet" and "What the desk says". A line is ten words:
 -- form, rule, context, three subjects, four premises. Lines count from 0.
-use Rattle.std.specs.Prelude.{Bool, true, false, ◌&&◌, List, [], ◌∷◌, map, ℕ, ◌+◌, ◌*◌, leb, ltb, eqb, take}
+use Rattle.std.specs.Prelude.{Bool, true, false, ◌&&◌, List, [], ◌∷◌, map, ℕ, ◌+◌, ◌*◌, leb, ltb, eqb, take, Result, Ok}
 use Rattle.terms.specs.Words.{word_at}
 use Rattle.terms.specs.Search.{Step, ends, goes, search_places}
 use Rattle.rules.specs.Judgment.{Judgment}
@@ -12,8 +12,9 @@ use Rattle.rules.specs.Decision.{instance?}
 use Rattle.rules.specs.Stated.{last_context, stated}
 use Rattle.rules.specs.declared.judgments.LineJudgment.{LineJudgment}
 use Rattle.sheets.specs.declared.lines.Line.{Line}
-use Rattle.sheets.specs.declared.lines.LinesAnswer.{LinesAnswer}
-use Rattle.sheets.specs.declared.lines.LinesAnswer.TheVariants.{NoFault, Faulty}
+use Rattle.sheets.specs.declared.refusals.Fault.TheVariants.{Numbers, NoInstance}
+use Rattle.sheets.specs.declared.refusals.Refusal.{Refusal}
+use Rattle.sheets.specs.Refusals.{refused}
 use Rattle.sheets.specs.Layout.{edition_of, contexts_in, lines_in}
 
 -- word j of line n, where the bytes begin with line 0
@@ -99,12 +100,12 @@ module _ (bytes : List ℕ) (terms contexts : ℕ) where
   line_follows? n = instance? (line_at n).rule (map stated_at (cited_by (line_at n))) (stated_at n)
 
   -- the check at line n: 9, then 10
-  unfoldable pub line_step : ℕ → Step (Unit {0}) LinesAnswer
+  unfoldable pub line_step : ℕ → Step (Unit {0}) (Result (Unit {0}) Refusal)
   line_step n =
       elim (line_fits (line_at n) n terms contexts) [
-        | false ↦ ends (Faulty 9 n)
-        | true ↦ elim (line_follows? n) [ no _ ↦ ends (Faulty 10 n) | yes _ ↦ goes tt ]
+        | false ↦ ends (refused Numbers n)
+        | true ↦ elim (line_follows? n) [ no _ ↦ ends (refused NoInstance n) | yes _ ↦ goes tt ]
       ]
 
-  unfoldable pub check_lines : ℕ → LinesAnswer
-  check_lines count = search_places line_step NoFault count 0
+  unfoldable pub check_lines : ℕ → Result (Unit {0}) Refusal
+  check_lines count = search_places line_step (Ok tt) count 0

@@ -1,7 +1,7 @@
 -- The listed lines among a line's premises, where an array holds how many listed numbers are below each number: a
 -- number is listed if more are below the next. Only the search for number 12 goes by these; law found_use: what it
 -- finds is what `kept_use` says.
-use Rattle.std.specs.Prelude.{Bool, true, false, ◌&&◌, List, ℕ, ◌+◌, ltb, get_or}
+use Rattle.std.specs.Prelude.{Bool, true, false, ◌&&◌, Option, Some, None, List, ℕ, ◌+◌, ltb, get_or}
 use Rattle.rules.specs.RuleTable.{premise_count}
 use Rattle.sheets.specs.declared.lines.Line.{Line}
 use Rattle.sheets.specs.declared.uses.Use.{Use}
@@ -23,6 +23,12 @@ highest_listed below l =
     (greater (listed_premise below (ltb 2 (premise_count l.rule)) l.p2)
     (listed_premise below (ltb 3 (premise_count l.rule)) l.p3))
 
--- of two lines that are used, the higher; the first if they are one
-unfoldable pub higher_use : Use → Use → Use
-higher_use u v = elim (ltb u.above v.above) [ true ↦ v | false ↦ u ]
+-- one more than a number, 0 for none
+abbrev pub above : Option ℕ → ℕ
+above None = 0
+above (Some n) = n + 1
+
+-- of a line that was found used, if one was, and another that is, the higher; the first if they are one
+unfoldable pub higher_use : Option Use → Use → Use
+higher_use None v = v
+higher_use (Some u) v = elim (ltb u.listed v.listed) [ true ↦ v | false ↦ u ]

@@ -1,10 +1,9 @@
 -- What a withdrawal leaves in the output, stated by index: document 01, "Withdrawal of line n writes the sheet without
 -- that line, premises above n lowered by 1, L and the distances lowered; output beyond the new length is untouched, and
 -- so is all output on any refusal." Laws output_left, output_only: it is just this.
-use Rattle.std.specs.Prelude.{◌≡◌, List, ℕ, suc, ◌+◌, ◌-◌, ◌*◌, ◌≤◌, ◌<◌, length, get_or, take}
+use Rattle.std.specs.Prelude.{◌≡◌, List, ℕ, suc, ◌+◌, ◌-◌, ◌*◌, ◌≤◌, ◌<◌, length, get_or, take, Result, Ok, Err}
 use Rattle.terms.specs.Words.{word_at}
-use Rattle.sheets.specs.declared.withdrawal.Withdrawal.{Withdrawal}
-use Rattle.sheets.specs.declared.withdrawal.Withdrawal.TheVariants.{Written, Refused}
+use Rattle.sheets.specs.declared.refusals.Refusal.{Refusal}
 use Rattle.sheets.specs.Layout.{lines_in, trailer_of, edition_of}
 use Rattle.sheets.specs.Lines.{line_word}
 use Rattle.sheets.specs.GoodLayout.{LaidOut}
@@ -33,6 +32,6 @@ pub record WrittenLeft (bytes : List ℕ) (n : ℕ) (before after : List ℕ) (n
   pub beyond : (i : ℕ) → new ≤ i → get_or after i 0 ≡ get_or before i 0
 
 -- what each answer leaves, for a sheet, a line's number and the output before and after
-unfoldable pub OutputLeft : List ℕ → ℕ → List ℕ → List ℕ → Withdrawal → Type 0
-OutputLeft bytes n before after (Written new) = WrittenLeft bytes n before after new
-OutputLeft bytes n before after (Refused _ _) = after ≡ before
+unfoldable pub OutputLeft : List ℕ → ℕ → List ℕ → List ℕ → Result ℕ Refusal → Type 0
+OutputLeft bytes n before after (Ok new) = WrittenLeft bytes n before after new
+OutputLeft bytes n before after (Err _) = after ≡ before

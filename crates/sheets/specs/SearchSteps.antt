@@ -1,6 +1,5 @@
 -- What a search hands on from step to step: only for the code, no answer speaks of it.
-use Rattle.std.specs.Prelude.{true, false, List, ℕ, ltb, replicate}
-use Rattle.std.proofs.Math.Option.{Option, none, some}
+use Rattle.std.specs.Prelude.{List, ℕ, replicate}
 use Rattle.terms.specs.Lists.{listed}
 use Rattle.terms.specs.Buffers.{over}
 use Rattle.sheets.specs.Heights.{line_height}
@@ -8,7 +7,3 @@ use Rattle.sheets.specs.Heights.{line_height}
 -- an array with the heights of the first count lines; the rest of it stays 0
 unfoldable pub heights_of : ℕ → List ℕ → ℕ → List ℕ
 heights_of edition lines count = over (listed (line_height edition lines) count) (replicate 1024 0)
-
--- the best line so far as one number: that line if it is below count, else none
-unfoldable pub line_below : ℕ → ℕ → Option ℕ
-line_below count n = elim (ltb n count) [ true ↦ some n | false ↦ none ]

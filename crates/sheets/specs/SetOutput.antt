@@ -1,9 +1,8 @@
 -- What a withdrawal of a set leaves in the output, stated by index: document 02, A6. Laws set_output_left,
 -- set_output_only: it is just this.
-use Rattle.std.specs.Prelude.{◌≡◌, List, ℕ, ◌+◌, ◌-◌, ◌*◌, ◌≤◌, ◌<◌, length, get_or, take}
+use Rattle.std.specs.Prelude.{◌≡◌, List, ℕ, ◌+◌, ◌-◌, ◌*◌, ◌≤◌, ◌<◌, length, get_or, take, Result, Ok, Err}
 use Rattle.terms.specs.Words.{word_at}
-use Rattle.sheets.specs.declared.withdrawal.Withdrawal.{Withdrawal}
-use Rattle.sheets.specs.declared.withdrawal.Withdrawal.TheVariants.{Written, Refused}
+use Rattle.sheets.specs.declared.refusals.Refusal.{Refusal}
 use Rattle.sheets.specs.Layout.{lines_in, trailer_of, edition_of}
 use Rattle.sheets.specs.Lines.{line_word}
 use Rattle.sheets.specs.GoodLayout.{LaidOut}
@@ -33,6 +32,6 @@ pub record SetWrittenLeft (bytes set before after : List ℕ) (new : ℕ) : Type
   pub beyond : (i : ℕ) → new ≤ i → get_or after i 0 ≡ get_or before i 0
 
 -- what each answer leaves, for a sheet, a set and the output before and after
-unfoldable pub SetOutputLeft : List ℕ → List ℕ → List ℕ → List ℕ → Withdrawal → Type 0
-SetOutputLeft bytes set before after (Written new) = SetWrittenLeft bytes set before after new
-SetOutputLeft bytes set before after (Refused _ _) = after ≡ before
+unfoldable pub SetOutputLeft : List ℕ → List ℕ → List ℕ → List ℕ → Result ℕ Refusal → Type 0
+SetOutputLeft bytes set before after (Ok new) = SetWrittenLeft bytes set before after new
+SetOutputLeft bytes set before after (Err _) = after ≡ before

@@ -1,14 +1,14 @@
 -- What withdrawal of a line answers, and the sheet that it writes: document 01, "What the desk says".
-use Rattle.std.specs.Prelude.{◌≡◌, Bool, true, false, ◌&&◌, ◌||◌, List, [], ◌∷◌, ℕ, suc, ◌+◌, ◌-◌, ◌*◌, ◌%◌, ◌≤◌, ◌<◌, leb, ltb, eqb, length, get_or, take}
+use Rattle.std.specs.Prelude.{◌≡◌, Bool, true, false, ◌&&◌, ◌||◌, List, [], ◌∷◌, ℕ, suc, ◌+◌, ◌-◌, ◌*◌, ◌%◌, ◌≤◌, ◌<◌, leb, ltb, eqb, length, get_or, take, Result, Ok, Err}
 use Rattle.terms.specs.Words.{word_at, bytes_of}
 use Rattle.terms.specs.Search.{first_at}
 use Rattle.terms.specs.Buffers.{over}
 use Rattle.rules.specs.RuleTable.{premise_count}
 use Rattle.sheets.specs.declared.lines.Line.{Line}
-use Rattle.sheets.specs.declared.admission.Admission.{Admission}
-use Rattle.sheets.specs.declared.admission.Admission.TheVariants.{Accepted, Refused as not_admitted}
-use Rattle.sheets.specs.declared.withdrawal.Withdrawal.{Withdrawal}
-use Rattle.sheets.specs.declared.withdrawal.Withdrawal.TheVariants.{Written, Refused}
+use Rattle.sheets.specs.declared.refusals.Counts.{Counts}
+use Rattle.sheets.specs.declared.refusals.Fault.TheVariants.{NoLine, LineUsed, Room}
+use Rattle.sheets.specs.declared.refusals.Refusal.{Refusal}
+use Rattle.sheets.specs.Refusals.{refused}
 use Rattle.sheets.specs.Layout.{edition_of, lines_in, trailer_of, distance_to_terms}
 use Rattle.sheets.specs.Lines.{line_of, premises_of}
 use Rattle.sheets.specs.Admission.{admit_of}
@@ -35,28 +35,28 @@ new_length T C L = distance_to_terms T C (L - 1) + 16
 
 -- numbers 12 and 13, where `place` is the line that is refused with 12, or L, `new` is the new length and `room` the
 -- output's
-unfoldable pub after_use : ℕ → ℕ → ℕ → ℕ → Withdrawal
+unfoldable pub after_use : ℕ → ℕ → ℕ → ℕ → Result ℕ Refusal
 after_use L new room place =
     elim (ltb place L) [
-      | true ↦ Refused 12 place
-      | false ↦ elim (ltb room new) [ true ↦ Refused 13 0 | false ↦ Written new ]
+      | true ↦ refused LineUsed place
+      | false ↦ elim (ltb room new) [ true ↦ refused Room 0 | false ↦ Ok new ]
     ]
 
 -- number 11, then 12 and 13
-unfoldable pub after_line : List ℕ → ℕ → ℕ → ℕ → ℕ → ℕ → Withdrawal
+unfoldable pub after_line : List ℕ → ℕ → ℕ → ℕ → ℕ → ℕ → Result ℕ Refusal
 after_line bytes T C L n room =
     elim (ltb n L) [
-      | false ↦ Refused 11 n
+      | false ↦ refused NoLine n
       | true ↦ after_use L (new_length T C L) room (first_use (edition_of bytes) (lines_in bytes T C) L n)
     ]
 
 -- "Withdrawal and finding admit the sheet first and return its refusal, then 11, 12, 13"
-unfoldable pub withdraw_after : List ℕ → ℕ → ℕ → Admission → Withdrawal
-withdraw_after bytes n room (not_admitted number place) = Refused number place
-withdraw_after bytes n room (Accepted T C L) = after_line bytes T C L n room
+unfoldable pub withdraw_after : List ℕ → ℕ → ℕ → Result Counts Refusal → Result ℕ Refusal
+withdraw_after bytes n room (Err r) = Err r
+withdraw_after bytes n room (Ok c) = after_line bytes c.terms c.contexts c.lines n room
 
 -- the answer for a sheet, a line's number, a work buffer of so many words and an output of so many bytes
-unfoldable pub withdraw_of : List ℕ → ℕ → ℕ → ℕ → Withdrawal
+unfoldable pub withdraw_of : List ℕ → ℕ → ℕ → ℕ → Result ℕ Refusal
 withdraw_of bytes n work room = withdraw_after bytes n room (admit_of bytes work)
 
 -- "premises above n lowered by 1"; an unused one is 0 and stays
@@ -103,9 +103,9 @@ unfoldable pub without_line : List ℕ → ℕ → List ℕ
 without_line bytes n = sheet_without bytes (trailer_of bytes).terms (trailer_of bytes).contexts (trailer_of bytes).lines n
 
 -- where this new sheet is written: "output beyond the new length is untouched, and so is all output on any refusal"
-unfoldable pub out_from : List ℕ → List ℕ → Withdrawal → List ℕ
-out_from new before (Written _) = over new before
-out_from new before (Refused _ _) = before
+unfoldable pub out_from : List ℕ → List ℕ → Result ℕ Refusal → List ℕ
+out_from new before (Ok _) = over new before
+out_from new before (Err _) = before
 
 -- the output afterwards, for a sheet, a line's number, a work buffer of so many words and the output before
 unfoldable pub out_after : List ℕ → ℕ → ℕ → List ℕ → List ℕ
@@ -123,17 +123,17 @@ abbrev pub Unused : ℕ → List ℕ → ℕ → ℕ → Type 0
 Unused edition lines L n = (k : ℕ) → n < k → k < L → Uses (line_of edition lines k) n → ⊥
 
 -- what each answer of withdrawal means for an accepted sheet with these counts; there is no other
-pub data AdmittedWithdrawalMeans (bytes : List ℕ) (T C L n room : ℕ) : Withdrawal → Type 0 where
-  missing : L ≤ n → AdmittedWithdrawalMeans bytes T C L n room (Refused 11 n)
+pub data AdmittedWithdrawalMeans (bytes : List ℕ) (T C L n room : ℕ) : Result ℕ Refusal → Type 0 where
+  missing : L ≤ n → AdmittedWithdrawalMeans bytes T C L n room (refused NoLine n)
   used : {p : ℕ} → n < L → LowestUse (edition_of bytes) (lines_in bytes T C) L n p
-      → AdmittedWithdrawalMeans bytes T C L n room (Refused 12 p)
+      → AdmittedWithdrawalMeans bytes T C L n room (refused LineUsed p)
   short : n < L → Unused (edition_of bytes) (lines_in bytes T C) L n → room < new_length T C L
-      → AdmittedWithdrawalMeans bytes T C L n room (Refused 13 0)
+      → AdmittedWithdrawalMeans bytes T C L n room (refused Room 0)
   written : n < L → Unused (edition_of bytes) (lines_in bytes T C) L n → new_length T C L ≤ room
-      → AdmittedWithdrawalMeans bytes T C L n room (Written (new_length T C L))
+      → AdmittedWithdrawalMeans bytes T C L n room (Ok (new_length T C L))
 
 -- Demand 3 (c), of an answer and the output afterwards: if a length is answered, the old sheet and the new one, the
 -- output up to that length, are accepted, and the new one states the old judgments in order, that one missing.
-unfoldable pub KeepsTheOthers : List ℕ → ℕ → List ℕ → Withdrawal → Type 0
-KeepsTheOthers old n after (Refused _ _) = Unit {0}
-KeepsTheOthers old n after (Written new) = IsAccepted old × IsAccepted (take new after) × (stated_by (take new after) ≡ without n (stated_by old))
+unfoldable pub KeepsTheOthers : List ℕ → ℕ → List ℕ → Result ℕ Refusal → Type 0
+KeepsTheOthers old n after (Err _) = Unit {0}
+KeepsTheOthers old n after (Ok new) = IsAccepted old × IsAccepted (take new after) × (stated_by (take new after) ≡ without n (stated_by old))

@@ -1,10 +1,10 @@
 -- What withdrawal of a set of lines answers, and the sheet that it writes: document 02, A6.
-use Rattle.std.specs.Prelude.{◌≡◌, true, false, not, ◌&&◌, List, [], ◌∷◌, ℕ, suc, ◌+◌, ◌-◌, ◌≤◌, ◌<◌, leb, ltb, length, take}
+use Rattle.std.specs.Prelude.{◌≡◌, true, false, not, ◌&&◌, List, [], ◌∷◌, ℕ, suc, ◌+◌, ◌-◌, ◌≤◌, ◌<◌, leb, ltb, length, take, Result, Ok, Err}
 use Rattle.terms.specs.Search.{first_at}
-use Rattle.sheets.specs.declared.admission.Admission.{Admission}
-use Rattle.sheets.specs.declared.admission.Admission.TheVariants.{Accepted, Refused as not_admitted}
-use Rattle.sheets.specs.declared.withdrawal.Withdrawal.{Withdrawal}
-use Rattle.sheets.specs.declared.withdrawal.Withdrawal.TheVariants.{Written, Refused}
+use Rattle.sheets.specs.declared.refusals.Counts.{Counts}
+use Rattle.sheets.specs.declared.refusals.Fault.TheVariants.{NoLine, LineUsed, Room, NotRising}
+use Rattle.sheets.specs.declared.refusals.Refusal.{Refusal}
+use Rattle.sheets.specs.Refusals.{refused}
 use Rattle.sheets.specs.Layout.{edition_of, lines_in, distance_to_terms}
 use Rattle.sheets.specs.Lines.{line_of}
 use Rattle.sheets.specs.Admission.{admit_of}
@@ -28,29 +28,29 @@ unfoldable pub kept_length : ℕ → ℕ → ℕ → List ℕ → ℕ
 kept_length T C L set = distance_to_terms T C (L - length set) + 16
 
 -- numbers 12 and 13, "measured against the final length only"
-unfoldable pub kept_answer : List ℕ → ℕ → ℕ → ℕ → List ℕ → ℕ → Withdrawal
+unfoldable pub kept_answer : List ℕ → ℕ → ℕ → ℕ → List ℕ → ℕ → Result ℕ Refusal
 kept_answer bytes T C L set room =
     after_use L (kept_length T C L set) room (kept_use (edition_of bytes) (lines_in bytes T C) L set)
 
 -- Numbers 18, 11, then 12 and 13. The list rises where 11 is tested, so its last number is the highest.
-unfoldable pub after_set : List ℕ → ℕ → ℕ → ℕ → List ℕ → ℕ → Withdrawal
+unfoldable pub after_set : List ℕ → ℕ → ℕ → ℕ → List ℕ → ℕ → Result ℕ Refusal
 after_set bytes T C L set room =
     elim (rises set) [
-      | false ↦ Refused 18 0
+      | false ↦ refused NotRising 0
       | true ↦
           elim (ltb 0 (length set) && leb L (last_listed set)) [
-            | true ↦ Refused 11 (last_listed set)
+            | true ↦ refused NoLine (last_listed set)
             | false ↦ kept_answer bytes T C L set room
           ]
     ]
 
 -- "after the sheet is admitted and before 11"
-unfoldable pub withdraw_set_after : List ℕ → List ℕ → ℕ → Admission → Withdrawal
-withdraw_set_after bytes set room (not_admitted number place) = Refused number place
-withdraw_set_after bytes set room (Accepted T C L) = after_set bytes T C L set room
+unfoldable pub withdraw_set_after : List ℕ → List ℕ → ℕ → Result Counts Refusal → Result ℕ Refusal
+withdraw_set_after bytes set room (Err r) = Err r
+withdraw_set_after bytes set room (Ok c) = after_set bytes c.terms c.contexts c.lines set room
 
 -- the answer for a sheet, a set, a work buffer of so many words and an output of so many bytes
-unfoldable pub withdraw_set_of : List ℕ → List ℕ → ℕ → ℕ → Withdrawal
+unfoldable pub withdraw_set_of : List ℕ → List ℕ → ℕ → ℕ → Result ℕ Refusal
 withdraw_set_of bytes set work room = withdraw_set_after bytes set room (admit_of bytes work)
 
 -- "what single withdrawals would give, taken from the highest number down"; "an empty set gives the sheet itself"
@@ -91,19 +91,19 @@ module _ (edition : ℕ) (lines : List ℕ) (L : ℕ) (set : List ℕ) where
   NoneUsed = (n : ℕ) → Listed set n → (k : ℕ) → k < L → KeptUses edition lines set n k → ⊥
 
 -- what each answer means for an accepted sheet with these counts; there is no other
-pub data AdmittedSetMeans (bytes : List ℕ) (T C L : ℕ) (set : List ℕ) (room : ℕ) : Withdrawal → Type 0 where
-  not_rising : (Rises set → ⊥) → AdmittedSetMeans bytes T C L set room (Refused 18 0)
-  beyond : {n : ℕ} → Rises set → HighestMissing L set n → AdmittedSetMeans bytes T C L set room (Refused 11 n)
+pub data AdmittedSetMeans (bytes : List ℕ) (T C L : ℕ) (set : List ℕ) (room : ℕ) : Result ℕ Refusal → Type 0 where
+  not_rising : (Rises set → ⊥) → AdmittedSetMeans bytes T C L set room (refused NotRising 0)
+  beyond : {n : ℕ} → Rises set → HighestMissing L set n → AdmittedSetMeans bytes T C L set room (refused NoLine n)
   cited : {n p : ℕ} → Rises set → AllLines L set → HighestUsed (edition_of bytes) (lines_in bytes T C) L set n p
-      → AdmittedSetMeans bytes T C L set room (Refused 12 p)
+      → AdmittedSetMeans bytes T C L set room (refused LineUsed p)
   too_short : Rises set → AllLines L set → NoneUsed (edition_of bytes) (lines_in bytes T C) L set
-      → room < kept_length T C L set → AdmittedSetMeans bytes T C L set room (Refused 13 0)
+      → room < kept_length T C L set → AdmittedSetMeans bytes T C L set room (refused Room 0)
   withdrawn : Rises set → AllLines L set → NoneUsed (edition_of bytes) (lines_in bytes T C) L set
-      → kept_length T C L set ≤ room → AdmittedSetMeans bytes T C L set room (Written (kept_length T C L set))
+      → kept_length T C L set ≤ room → AdmittedSetMeans bytes T C L set room (Ok (kept_length T C L set))
 
 -- Demand 3 (c) for a set: if a length is answered, the old sheet and the new one, the output up to that length, are
 -- accepted, and the new one states the old judgments in order, the listed ones missing.
-unfoldable pub KeepsTheUnlisted : List ℕ → List ℕ → List ℕ → Withdrawal → Type 0
-KeepsTheUnlisted old set after (Refused _ _) = Unit {0}
-KeepsTheUnlisted old set after (Written new) =
+unfoldable pub KeepsTheUnlisted : List ℕ → List ℕ → List ℕ → Result ℕ Refusal → Type 0
+KeepsTheUnlisted old set after (Err _) = Unit {0}
+KeepsTheUnlisted old set after (Ok new) =
     IsAccepted old × IsAccepted (take new after) × (stated_by (take new after) ≡ without_places set (stated_by old))

@@ -1,81 +1,107 @@
 // Finding the lines that state many judgments: the sheet is admitted once.
-ghost use Rattle.std.specs.Prelude.{◌≡◌, ◌*◌, ◌≤◌, length, drop};
+ghost use Rattle.std.specs.Prelude.{◌≡◌, map, ◌≤◌, length};
 ghost use Rattle.terms.specs.Lists.{listed};
 ghost use Rattle.terms.specs.Buffers.{over};
 ghost use Rattle.sheets.specs.Admission.{work_after};
-ghost use Rattle.sheets.specs.Batch.{wanted_of, wanted_at, wanted_in, batch_of, answers_after};
-ghost use Rattle.sheets.specs.Opening.{Searchable, answer_in};
+ghost use Rattle.sheets.specs.Batch.{answer_for, wanted_of, wanted_at, wanted_in, batch_of, answers_after};
+ghost use Rattle.sheets.specs.Opening.{Answerable, answer_in};
+ghost use Rattle.sheets.specs.declared.finding.Wanted.{Wanted};
 
 use crate::finding::Wanted;
-use crate::opening::{Opened, answer_by, answer_in, batch_of, open_batch};
+use crate::good_sheet::GoodSheet;
+use crate::opening::Opened;
+use crate::refusals::{Fault, Refusal};
 
-// What a batch of searches answers: how many judgments were sought, or the number of a refusal and its place.
-#[derive(Clone, Copy)]
-pub enum Batch {
-    Answered(usize),
-    Refused { number: usize, place: usize },
+// What a list of judgments is made of.
+trait Judgment: Copy {
+    ghost wanted: { Self → Wanted };
+
+    fn wanted(self) -> Wanted
+        ensures { result ≡ wanted self };
 }
 
-// Puts the answer for each judgment of a list, as many as the opened sheet says.
-fn search_each(sheet: &[u8], o: Opened, wanted: &[Wanted], answers: &mut [u16])
-    requires { Searchable sheet.now o × (o.todo ≤ length wanted.now) × (o.todo ≤ length answers.old) }
-    ensures { answers.new ≡ over (listed (λ i. answer_in sheet.now o (wanted_at wanted.now i)) o.todo) answers.old }
+impl Judgment for Wanted {
+    ghost wanted = { λ w. w };
+
+    fn wanted(self) -> Wanted {
+        self
+    }
+}
+
+impl Judgment for [u32; 5] {
+    ghost wanted = { wanted_of };
+
+    fn wanted(self) -> Wanted {
+        self.into()
+    }
+}
+
+// The answer for one judgment; 65,535 for none is what the caller's buffer takes (`answers_after`).
+fn answer_for(found: Result<usize, Refusal>) -> u16
+    requires { Answerable found }
+    ensures { result ≡ answer_for found }
 {
-    let n = o.todo;
-    let mut i = 0;
-    while i < n {
-        answers[i] = answer_in(sheet, o, wanted[i]);
-        i += 1;
+    match found {
+        Ok(line) => line as u16,
+        Err(_) => 65535,
+    }
+}
+
+// Puts the answer for each judgment of a list.
+fn search_each<J: Judgment>(opened: &Opened, list: &[J], answers: &mut [u16])
+    requires { length list.now ≤ length answers.old }
+    ensures { answers.new ≡ over (listed (λ i. answer_in opened.now.sheet.bytes.now opened.now.sheet.counts (wanted_at (map J.wanted list.now) i)) (length list.now)) answers.old }
+{
+    for i in 0..list.len() {
+        answers[i] = answer_for(opened.search(list[i].wanted()));
     }
 }
 
 // Admits a sheet, and finds the line of each judgment of a list, as single searches do.
-pub fn find_all(sheet: &[u8], work: &mut [u32], wanted: &[Wanted], answers: &mut [u16]) -> Batch
+fn find_each<J: Judgment>(
+    sheet: &[u8],
+    work: &mut [u32],
+    list: &[J],
+    answers: &mut [u16],
+) -> Result<usize, Refusal>
+    ensures answer { result ≡ batch_of sheet.now (length work.old) (length list.now) (length answers.old) }
+    ensures left { work.new ≡ work_after sheet.now work.old }
+    ensures put { answers.new ≡ answers_after sheet.now (length work.old) (map J.wanted list.now) answers.old }
+{
+    let admitted = GoodSheet::admit(sheet, work)?;
+    let count = list.len();
+    if answers.len() < count {
+        return Err(Fault::AnswerRoom.into());
+    }
+    search_each(&Opened::new(admitted), list, answers);
+    Ok(count)
+}
+
+// A list of judgments.
+pub fn find_all(
+    sheet: &[u8],
+    work: &mut [u32],
+    wanted: &[Wanted],
+    answers: &mut [u16],
+) -> Result<usize, Refusal>
     ensures answer { result ≡ batch_of sheet.now (length work.old) (length wanted.now) (length answers.old) }
     ensures left { work.new ≡ work_after sheet.now work.old }
     ensures put { answers.new ≡ answers_after sheet.now (length work.old) wanted.now answers.old }
 {
-    let o = open_batch(sheet, work, wanted.len(), answers.len());
-    search_each(sheet, o, wanted, answers);
-    batch_of(o)
+    find_each(sheet, work, wanted, answers)
 }
 
-// The judgment of five numbers.
-fn wanted_of(numbers: &[u32]) -> Wanted
-    requires { 5 ≤ length numbers.now }
-    ensures { result ≡ wanted_of numbers.now }
-{
-    Wanted {
-        form: numbers[0],
-        context: numbers[1],
-        s1: numbers[2],
-        s2: numbers[3],
-        s3: numbers[4],
-    }
-}
-
-// The same as `search_each` for a list of numbers, five a judgment.
-fn search_each_flat(sheet: &[u8], o: Opened, numbers: &[u32], answers: &mut [u16])
-    requires { Searchable sheet.now o × (5 * o.todo ≤ length numbers.now) × (o.todo ≤ length answers.old) }
-    ensures { answers.new ≡ over (listed (λ i. answer_in sheet.now o (wanted_of (drop (5 * i) numbers.now))) o.todo) answers.old }
-{
-    let n = o.todo;
-    let heights = o.heights;
-    let mut i = 0;
-    while i < n {
-        let start = 5 * i;
-        answers[i] = answer_by(sheet, o, &heights, wanted_of(&numbers[start..]));
-        i += 1;
-    }
-}
-
-// The same as `find_all` for a list of numbers, five a judgment, of which only whole judgments count.
-pub fn find_all_flat(sheet: &[u8], work: &mut [u32], numbers: &[u32], answers: &mut [u16]) -> Batch
+// A list of numbers, five a judgment, of which only whole judgments count.
+pub fn find_all_flat(
+    sheet: &[u8],
+    work: &mut [u32],
+    numbers: &[u32],
+    answers: &mut [u16],
+) -> Result<usize, Refusal>
     ensures answer { result ≡ batch_of sheet.now (length work.old) (length (wanted_in numbers.now)) (length answers.old) }
     ensures left { work.new ≡ work_after sheet.now work.old }
     ensures put { answers.new ≡ answers_after sheet.now (length work.old) (wanted_in numbers.now) answers.old }
 {
-    let o = open_batch(sheet, work, numbers.len() / 5, answers.len());
-    search_each_flat(sheet, o, numbers, answers);
-    batch_of(o)
+    let (judgments, _) = numbers.as_chunks::<5>();
+    find_each(sheet, work, judgments, answers)
 }

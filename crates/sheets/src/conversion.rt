@@ -4,23 +4,15 @@ ghost use Rattle.terms.specs.Words.{word_at, bytes_of};
 ghost use Rattle.terms.specs.Buffers.{over};
 ghost use Rattle.terms.specs.Lists.{listed};
 ghost use Rattle.sheets.specs.Admission.{work_after};
-ghost use Rattle.sheets.specs.Good.{Good};
 ghost use Rattle.sheets.specs.Conversion.{converted_word, converted, convert_admitted, convert_of, output_from};
 ghost use Rattle.sheets.specs.Conversion.{converted_after, KeepsEveryLine};
 ghost use Rattle.sheets.specs.MotiveSteps.{with_word};
 
-use crate::admission::{Admission, admit};
 use crate::copying::{copy_bytes, put_word};
-use crate::layout::edition_of;
+use crate::good_sheet::GoodSheet;
 use crate::motive_lines::{NEW_EDITION, find_motives};
+use crate::refusals::{Counts, Fault, Refusal};
 use terms::words::word_at;
-
-// What the converter answers: the new sheet's length, or the number of a refusal and its place.
-#[derive(Clone, Copy)]
-pub enum Conversion {
-    Written { length: usize },
-    Refused { number: usize, place: usize },
-}
 
 // Puts line `first` before a line's premises, which begin at word `at`; the last of four drops out.
 fn add_premise(sheet: &[u8], at: usize, first: usize, out: &mut [u8])
@@ -42,66 +34,49 @@ fn write_converted(sheet: &[u8], start: usize, lines: usize, first: &[u16; 1024]
 {
     copy_bytes(sheet, sheet.len(), out);
     put_word(out, start + 10 * lines + 3, NEW_EDITION);
-    let mut n = 0;
-    while n < lines {
+    for n in 0..lines {
         // Compared before it is widened, since no bound is known of an array's element.
         let premise = first[n];
         if premise < n as u16 {
             add_premise(sheet, start + (10 * n + 6), premise as usize, out);
         }
-        n += 1;
     }
 }
 
 // Numbers 20, 21 and 13 on a sheet that is admitted, or the new sheet.
-fn convert_admitted(
-    sheet: &[u8],
-    terms: usize,
-    contexts: usize,
-    lines: usize,
-    out: &mut [u8],
-) -> Conversion
-    requires { Good sheet.now terms contexts lines }
-    ensures answer { result ≡ convert_admitted sheet.now terms contexts lines (length out.old) }
-    ensures left { out.new ≡ output_from (converted sheet.now) out.old result }
+fn convert_admitted(sheet: GoodSheet, out: &mut [u8]) -> Result<usize, Refusal>
+    ensures answer { result ≡ convert_admitted sheet.entry.bytes.now sheet.entry.counts.terms sheet.entry.counts.contexts sheet.entry.counts.lines (length out.old) }
+    ensures left { out.new ≡ output_from (converted sheet.entry.bytes.now) out.old result }
 {
-    let up_to_date = NEW_EDITION <= edition_of(sheet);
+    let up_to_date = NEW_EDITION <= sheet.edition;
     if up_to_date {
-        return Conversion::Refused {
-            number: 20,
-            place: 0,
-        };
+        return Err(Fault::UpToDate.into());
     }
     let mut first = [0u16; 1024];
-    let place = find_motives(sheet, terms, contexts, lines, &mut first);
-    if place < lines {
-        return Conversion::Refused { number: 21, place };
+    if let Err(place) = find_motives(sheet, &mut first) {
+        return Err(Refusal::at(Fault::NoMotive, place));
     }
-    let length = sheet.len();
+    let length = sheet.bytes.len();
     if out.len() < length {
-        return Conversion::Refused {
-            number: 13,
-            place: 0,
-        };
+        return Err(Fault::Room.into());
     }
-    write_converted(sheet, 5 * terms + 2 * contexts, lines, &first, out);
-    Conversion::Written { length }
+    let Counts {
+        terms,
+        contexts,
+        lines,
+    } = sheet.counts;
+    write_converted(sheet.bytes, 5 * terms + 2 * contexts, lines, &first, out);
+    Ok(length)
 }
 
 // Admits a sheet of edition 1 or 2, and writes it to `out` in edition 3, with the motive of each line of rule 33 or 34
 // as its first premise.
-pub fn convert(sheet: &[u8], work: &mut [u32], out: &mut [u8]) -> Conversion
+pub fn convert(sheet: &[u8], work: &mut [u32], out: &mut [u8]) -> Result<usize, Refusal>
     ensures answer { result ≡ convert_of sheet.now (length work.old) (length out.old) }
     ensures left { work.new ≡ work_after sheet.now work.old }
     ensures written { out.new ≡ converted_after sheet.now (length work.old) out.old }
     ensures kept { KeepsEveryLine sheet.now out.new result }
 {
-    match admit(sheet, work) {
-        Admission::Refused { number, place } => Conversion::Refused { number, place },
-        Admission::Accepted {
-            terms,
-            contexts,
-            lines,
-        } => convert_admitted(sheet, terms, contexts, lines, out),
-    }
+    let admitted = GoodSheet::admit(sheet, work)?;
+    convert_admitted(admitted, out)
 }

@@ -2,12 +2,13 @@
 ghost use Rattle.std.specs.Prelude.{◌≡◌, true, ◌≤◌, length};
 ghost use Rattle.sheets.specs.Layout.{trailer_of, edition_of, mark_fits, limits_fit, distances_fit, counts_fit, trailer_answer, layout_of};
 
+use crate::refusals::{Counts, Fault};
 use rules::editions::is_edition;
 use terms::words::word_at;
 
 // The eight words of a trailer. The three distances go back from its first byte to the terms, the contexts and the
 // lines.
-#[derive(Clone, Copy)]
+#[derive(Clone, Copy, Debug, PartialEq, Eq)]
 pub struct Trailer {
     pub terms: usize,
     pub contexts: usize,
@@ -17,19 +18,6 @@ pub struct Trailer {
     pub to_contexts: usize,
     pub to_lines: usize,
     pub mark: usize,
-}
-
-// What the layout shows: how many rows each table has, or the first of numbers 1 to 4 that is broken.
-#[derive(Clone, Copy)]
-pub enum Layout {
-    Counted {
-        terms: usize,
-        contexts: usize,
-        lines: usize,
-    },
-    Wrong {
-        number: usize,
-    },
 }
 
 // The trailer of a sheet, its last 16 bytes.
@@ -100,33 +88,33 @@ fn counts_fit(t: Trailer, n: usize) -> bool
 }
 
 // Numbers 2 to 4, for a sheet of `n` bytes and a work buffer of `work` words.
-fn trailer_answer(t: Trailer, n: usize, work: usize) -> Layout
+fn trailer_answer(t: Trailer, n: usize, work: usize) -> Result<Counts, Fault>
     ensures { result ≡ trailer_answer t n work }
 {
-    if mark_fits(t) {
-        if counts_fit(t, n) {
-            if work < t.terms {
-                return Layout::Wrong { number: 4 };
-            }
-            return Layout::Counted {
-                terms: t.terms,
-                contexts: t.contexts,
-                lines: t.lines,
-            };
-        }
-        return Layout::Wrong { number: 3 };
+    if !mark_fits(t) {
+        return Err(Fault::Mark);
     }
-    Layout::Wrong { number: 2 }
+    if !counts_fit(t, n) {
+        return Err(Fault::Counts);
+    }
+    if work < t.terms {
+        return Err(Fault::WorkBuffer);
+    }
+    Ok(Counts {
+        terms: t.terms,
+        contexts: t.contexts,
+        lines: t.lines,
+    })
 }
 
 // The counts of a sheet, or the first of numbers 1 to 4 that is broken.
-pub fn read_layout(sheet: &[u8], work: usize) -> Layout
+pub fn read_layout(sheet: &[u8], work: usize) -> Result<Counts, Fault>
     ensures { result ≡ layout_of sheet.now work }
 {
     let n = sheet.len();
     if (16 <= n) & (n <= 52240) {
         trailer_answer(read_trailer(sheet), n, work)
     } else {
-        Layout::Wrong { number: 1 }
+        Err(Fault::Length)
     }
 }

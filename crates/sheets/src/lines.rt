@@ -1,22 +1,25 @@
 // Lines: ten words each.
 ghost use Rattle.std.specs.Prelude.{◌≡◌, ◌+◌, ◌*◌, ◌<◌, ◌≤◌, length};
 ghost use Rattle.terms.specs.Decides.{Decides};
-ghost use Rattle.rules.specs.RuleTable.{rule_table, form_of, premise_count};
+ghost use Rattle.rules.specs.RuleTable.{form_of, premise_count};
 ghost use Rattle.sheets.specs.Layout.{edition_of};
 ghost use Rattle.sheets.specs.Lines.{line_word, line_of, judgment_of, below, subjects_fit, premises_fit, rule_fits, numbers_fit, line_fits, line_at, LineFollows, check_lines};
 ghost use Rattle.sheets.specs.Good.{WellFormedTables, GoodBefore};
 ghost use Rattle.sheets.specs.GoodLines.{LineOk};
+ghost use Rattle.sheets.specs.Citing.{CitingLines};
 
 use crate::layout::edition_of;
+use crate::refusals::{Counts, Fault, Refusal};
 use rules::editions::row_in;
 use rules::instances::{is_cited_instance, is_instance};
-use rules::judgments::{LineJudgment, last_context, subject_use};
-use rules::table::{cites_motive, conclusion_form, is_rule, premise_count, rule_table};
+use rules::judgments::{LineJudgment, Premises, last_context, subject_use};
+use rules::table::{RuleTable, cites_motive, conclusion_form, is_rule, rule_table};
+use rules::tables::Tables;
 use terms::words::word_at;
 
 // A line as its edition reads it: its words, but that `rule` is the row of the rule table, 0 where the edition does not
 // admit the rule.
-#[derive(Clone, Copy)]
+#[derive(Clone, Copy, Debug, PartialEq, Eq)]
 pub struct Line {
     pub form: usize,
     pub rule: usize,
@@ -30,11 +33,22 @@ pub struct Line {
     pub p3: usize,
 }
 
-// What the check of the lines finds: every line is right, or the first fault and its line.
+// The lines of an admitted sheet, the bytes of which begin with them: each cites earlier ones alone.
 #[derive(Clone, Copy)]
-pub enum LinesAnswer {
-    NoFault,
-    Faulty { number: usize, place: usize },
+pub struct Lines<'a> {
+    pub edition: usize,
+    pub rows: &'a [u8],
+    pub count: usize,
+    ghost citing: { (20 * count ≤ length rows.now) × (count ≤ 1024) × CitingLines edition rows.now count },
+}
+
+impl<'a> Lines<'a> {
+    pub fn line(self, n: usize) -> Line
+        requires { n < self.count }
+        ensures { result ≡ line_of self.entry.edition self.entry.rows.now n }
+    {
+        read_line(self.edition, self.rows, n)
+    }
 }
 
 // Word `j` of line `n`.
@@ -46,7 +60,7 @@ fn line_word(lines: &[u8], n: usize, j: usize) -> usize
 }
 
 // Line `n`, its words assembled once; the rule is the row by which the edition judges it.
-pub fn read_line(edition: usize, lines: &[u8], n: usize) -> Line
+fn read_line(edition: usize, lines: &[u8], n: usize) -> Line
     requires { 20 * n + 20 ≤ length lines.now }
     ensures { result ≡ line_of edition lines.now n }
 {
@@ -65,15 +79,18 @@ pub fn read_line(edition: usize, lines: &[u8], n: usize) -> Line
 }
 
 // What a line states.
-pub fn judgment_of(line: Line) -> LineJudgment
-    ensures { result ≡ judgment_of line }
-{
-    LineJudgment {
-        form: line.form,
-        context: line.context,
-        s1: line.s1,
-        s2: line.s2,
-        s3: line.s3,
+impl From<Line> for LineJudgment {
+    ghost from_gives = { λ line j. j ≡ judgment_of line };
+
+    #[tactic(auto, unfolding(crate::specs::Lines::judgment_of))]
+    fn from(line: Line) -> LineJudgment {
+        LineJudgment {
+            form: line.form,
+            context: line.context,
+            s1: line.s1,
+            s2: line.s2,
+            s3: line.s3,
+        }
     }
 }
 
@@ -107,96 +124,90 @@ fn rule_fits(line: Line, form: usize) -> bool
     requires { form ≡ form_of line.rule }
     ensures { result ≡ rule_fits line }
 {
-    is_rule(line.rule) & (judgment_of(line).form == form)
+    is_rule(line.rule) & (LineJudgment::from(line).form == form)
 }
 
 // Number 9, the numbers of line `n`, whose rule has `count` premises.
-fn numbers_fit(line: Line, count: usize, n: usize, terms: usize, contexts: usize) -> bool
+fn numbers_fit(line: Line, count: usize, n: usize, counts: Counts) -> bool
     requires { count ≡ premise_count line.rule }
-    ensures { result ≡ numbers_fit line n terms contexts }
+    ensures { result ≡ numbers_fit line n counts.terms counts.contexts }
 {
-    let j = judgment_of(line);
-    (line.context <= last_context(j.form, contexts))
-        & subjects_fit(j, terms)
+    let j = LineJudgment::from(line);
+    (line.context <= last_context(j.form, counts.contexts))
+        & subjects_fit(j, counts.terms)
         & premises_fit(line, count, n)
 }
 
 // Number 9 at line `n`, over the given numbers of terms and of contexts.
-fn line_fits(table: &[u8; 690], line: Line, n: usize, terms: usize, contexts: usize) -> bool
-    requires { table.now ≡ rule_table }
-    ensures { result ≡ line_fits line n terms contexts }
+fn line_fits(table: &RuleTable, line: Line, n: usize, counts: Counts) -> bool
+    ensures { result ≡ line_fits line n counts.terms counts.contexts }
 {
     let rule = line.rule;
     if rule_fits(line, conclusion_form(rule)) {
-        numbers_fit(line, premise_count(table, rule), n, terms, contexts)
+        numbers_fit(line, table.premise_count(rule), n, counts)
     } else {
         false
     }
 }
 
-// Number 10 at line `n`. An unused premise word is 0, and line 0 is there; what it states is not looked at.
+// Number 10 at line `n`. An unused premise word is 0, and line 0 is there; what it states is not looked at. No
+// `GoodSheet`: the sheet is not admitted yet.
 fn line_follows(
-    table: &[u8; 690],
+    table: &RuleTable,
     sheet: &[u8],
     edition: usize,
-    terms: usize,
-    contexts: usize,
+    counts: Counts,
     line: Line,
     n: usize,
 ) -> bool
-    requires table_value { table.now ≡ rule_table }
     requires edition_value { edition ≡ edition_of sheet.now }
-    requires good_before { GoodBefore sheet.now terms contexts n × (line ≡ line_at sheet.now terms contexts n) × LineOk line n terms contexts }
-    ensures { Decides result (LineFollows sheet.now terms contexts n) }
+    requires good_before { GoodBefore sheet.now counts.terms counts.contexts n × (line ≡ line_at sheet.now counts.terms counts.contexts n) × LineOk line n counts.terms counts.contexts }
+    ensures { Decides result (LineFollows sheet.now counts.terms counts.contexts n) }
 {
-    let after_terms = 10 * terms;
-    let after_contexts = 10 * terms + 4 * contexts;
-    let context_rows = &sheet[after_terms..];
+    let after_terms = 10 * counts.terms;
+    let after_contexts = 10 * counts.terms + 4 * counts.contexts;
+    let tables = Tables {
+        terms: sheet,
+        contexts: &sheet[after_terms..],
+    };
     let lines = &sheet[after_contexts..];
-    let p = judgment_of(read_line(edition, lines, line.p0));
-    let q = judgment_of(read_line(edition, lines, line.p1));
-    let r = judgment_of(read_line(edition, lines, line.p2));
-    let s = judgment_of(read_line(edition, lines, line.p3));
-    let c = judgment_of(line);
+    let ps = Premises {
+        p: read_line(edition, lines, line.p0).into(),
+        q: read_line(edition, lines, line.p1).into(),
+        r: read_line(edition, lines, line.p2).into(),
+        s: read_line(edition, lines, line.p3).into(),
+    };
+    let c = LineJudgment::from(line);
     let rule = line.rule;
     if cites_motive(rule) {
-        is_cited_instance(table, sheet, context_rows, rule, c, p, q, r, s)
+        is_cited_instance(table, tables, rule, c, &ps)
     } else {
-        is_instance(table, sheet, context_rows, rule, c, p, q, r, s)
+        is_instance(table, tables, rule, c, &ps)
     }
 }
 
-// Checks the first `count` lines in order: 9, then 10, at each.
-pub fn check_lines(sheet: &[u8], terms: usize, contexts: usize, count: usize) -> LinesAnswer
-    requires { WellFormedTables sheet.now terms contexts count }
-    ensures { result ≡ check_lines sheet.now terms contexts count }
+// Checks the lines in order: 9, then 10, at each.
+pub fn check_lines(sheet: &[u8], counts: Counts) -> Result<(), Refusal>
+    requires { WellFormedTables sheet.now counts.terms counts.contexts counts.lines }
+    ensures { result ≡ check_lines sheet.now counts.terms counts.contexts counts.lines }
 {
+    let count = counts.lines;
     // where there is no line, no table is made
     if count == 0 {
-        return LinesAnswer::NoFault;
+        return Ok(());
     }
-    let start = 10 * terms + 4 * contexts;
+    let start = 10 * counts.terms + 4 * counts.contexts;
     let lines = &sheet[start..];
     let edition = edition_of(sheet);
     let table = rule_table();
-    let mut n = 0;
-    while n < count {
+    for n in 0..count {
         let line = read_line(edition, lines, n);
-        if line_fits(&table, line, n, terms, contexts) {
-            if line_follows(&table, sheet, edition, terms, contexts, line, n) {
-                n += 1;
-            } else {
-                return LinesAnswer::Faulty {
-                    number: 10,
-                    place: n,
-                };
-            }
-        } else {
-            return LinesAnswer::Faulty {
-                number: 9,
-                place: n,
-            };
+        if !line_fits(&table, line, n, counts) {
+            return Err(Refusal::at(Fault::Numbers, n));
+        }
+        if !line_follows(&table, sheet, edition, counts, line, n) {
+            return Err(Refusal::at(Fault::NoInstance, n));
         }
     }
-    LinesAnswer::NoFault
+    Ok(())
 }

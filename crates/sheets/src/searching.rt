@@ -1,71 +1,40 @@
 // The search of a sheet's lines for a judgment.
-ghost use Rattle.std.specs.Prelude.{◌≡◌, ◌*◌, ◌<◌, ◌≤◌, length, get_or};
+ghost use Rattle.std.specs.Prelude.{◌≡◌, ◌<◌, get_or, Some, IfSome};
 ghost use Rattle.sheets.specs.Easiest.{better as better_of};
-ghost use Rattle.sheets.specs.SearchSteps.{heights_of, line_below};
-ghost use Rattle.sheets.specs.Finding.{has_numbers, search_lines};
+ghost use Rattle.sheets.specs.SearchSteps.{heights_of};
+ghost use Rattle.sheets.specs.Finding.{search_lines};
 
-use crate::finding::{Found, Wanted};
-use crate::lines::{judgment_of, read_line};
+use crate::finding::Wanted;
+use crate::lines::Lines;
+use crate::refusals::{Fault, Refusal};
 use rules::judgments::LineJudgment;
 
-// A function, since the range of a parameter is known, and that of an element read through a reference is not.
-pub fn wide(number: u32) -> usize
-    ensures { result ≡ number }
+// The better of line `n` and the best line before it, if there is one: the later one, if it is no higher.
+fn better(heights: &[u16; 1024], best: Option<usize>, n: usize) -> usize
+    requires { (n < 1024) × IfSome best (λ b. b < 1024) }
+    ensures { Some result ≡ better_of (λ k. get_or heights.now k 0) best n }
 {
-    number as usize
-}
-
-// Has a judgment these five numbers?
-fn has_numbers(j: LineJudgment, w: Wanted) -> bool
-    ensures { result ≡ has_numbers j w }
-{
-    (j.form == wide(w.form))
-        & (j.context == wide(w.context))
-        & (j.s1 == wide(w.s1))
-        & (j.s2 == wide(w.s2))
-        & (j.s3 == wide(w.s3))
-}
-
-// The better of line `n` and the best line before it, of which there is none where `best` is not below `count`: the
-// later one, if it is no higher.
-fn better(heights: &[u16; 1024], count: usize, best: usize, n: usize) -> usize
-    requires { (n < count) × (count ≤ 1024) }
-    ensures { line_below count result ≡ better_of (λ k. get_or heights.now k 0) (line_below count best) n }
-{
-    if count <= best {
-        return n;
+    match best {
+        Some(b) if heights[b] < heights[n] => b,
+        _ => n,
     }
-    if heights[best] < heights[n] {
-        return best;
-    }
-    n
 }
 
-// The easiest of the first `count` lines that has these five numbers.
-pub fn search_lines(
-    edition: usize,
-    lines: &[u8],
-    count: usize,
-    heights: &[u16; 1024],
-    wanted: Wanted,
-) -> Found
-    requires count_in_bounds { (20 * count ≤ length lines.now) × (count ≤ 1024) }
-    requires heights_value { heights.now ≡ heights_of edition lines.now count }
-    ensures { result ≡ search_lines edition lines.now count wanted }
+// The easiest of the lines that has these five numbers. A call: compiled among others, the loop takes an eighth longer.
+#[inline(never)]
+pub fn search_lines(lines: Lines, heights: &[u16; 1024], wanted: Wanted) -> Result<usize, Refusal>
+    requires { heights.now ≡ heights_of lines.edition lines.rows.now lines.count }
+    ensures { result ≡ search_lines lines.entry.edition lines.entry.rows.now lines.entry.count wanted }
 {
-    let mut best = count;
-    let mut n = 0;
-    while n < count {
-        if has_numbers(judgment_of(read_line(edition, lines, n)), wanted) {
-            best = better(heights, count, best, n);
+    let sought = LineJudgment::from(wanted);
+    let mut best = None;
+    for n in 0..lines.count {
+        if LineJudgment::from(lines.line(n)) == sought {
+            best = Some(better(heights, best, n));
         }
-        n += 1;
     }
-    if best < count {
-        return Found::Line(best);
-    }
-    Found::Refused {
-        number: 14,
-        place: 0,
+    match best {
+        Some(line) => Ok(line),
+        None => Err(Fault::NotStated.into()),
     }
 }

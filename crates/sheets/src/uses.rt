@@ -1,104 +1,80 @@
 // Number 12: listed lines that lines which stay use.
-ghost use Rattle.std.specs.Prelude.{◌≡◌, ◌*◌, ◌≤◌, ◌<◌, length};
-ghost use Rattle.rules.specs.RuleTable.{rule_table, IsRule};
-ghost use Rattle.sheets.specs.LineSets.{Rises};
+ghost use Rattle.std.specs.Prelude.{◌≡◌, ◌<◌, MatchOption};
+ghost use Rattle.rules.specs.RuleTable.{IsRule};
 ghost use Rattle.sheets.specs.Numbering.{Numbering};
-ghost use Rattle.sheets.specs.ListedUses.{listed_premise, greater as greater_of};
-ghost use Rattle.sheets.specs.ListedUses.{highest_listed, higher_use};
-ghost use Rattle.sheets.specs.Citing.{CitingLines};
+ghost use Rattle.sheets.specs.ListedUses.{above, listed_premise, highest_listed, higher_use};
 ghost use Rattle.sheets.specs.WithdrawalSet.{AllLines, kept_use};
 
-use crate::lines::{Line, read_line};
-use rules::table::{premise_count, rule_table};
+use crate::line_sets::{LineNumbers, LineSet};
+use crate::lines::{Line, Lines};
+use rules::table::{RuleTable, rule_table};
 
-// A listed line that is used, as one more than its number, or 0 for none; and the lowest line that uses it and stays.
+// A listed line that is used, and the lowest line that uses it and stays.
 #[derive(Clone, Copy)]
 struct Use {
-    above: usize,
+    listed: usize,
     place: usize,
 }
 
-// One more than a premise that is used and listed, else 0.
-fn listed_premise(below: &[u16; 1025], used: bool, premise: usize) -> usize
+// A premise, if it is used and listed.
+fn listed_premise(numbers: &LineNumbers, used: bool, premise: usize) -> Option<usize>
     requires { premise < 1024 }
-    ensures { result ≡ listed_premise below.now used premise }
+    ensures { above result ≡ listed_premise numbers.now.below used premise }
 {
-    if used & (below[premise] < below[premise + 1]) {
-        return premise + 1;
+    if used & numbers.is_listed(premise) {
+        return Some(premise);
     }
-    0
+    None
 }
 
-fn greater(m: usize, n: usize) -> usize
-    ensures { result ≡ greater_of m n }
-{
-    if m < n {
-        return n;
-    }
-    m
-}
-
-// One more than the highest listed line among the premises that the line's rule uses; 0 if none is listed.
-fn highest_listed(table: &[u8; 690], line: Line, below: &[u16; 1025]) -> usize
-    requires table_value { table.now ≡ rule_table }
+// The highest listed line among the premises that the line's rule uses: `None` is below every number.
+fn highest_listed(table: &RuleTable, line: Line, numbers: &LineNumbers) -> Option<usize>
     requires rule { IsRule line.rule }
     requires p0_bound { (line.p0 < 1024) × (line.p1 < 1024) × (line.p2 < 1024) × (line.p3 < 1024) }
-    ensures { result ≡ highest_listed below.now line }
+    ensures { above result ≡ highest_listed numbers.now.below line }
 {
-    let count = premise_count(table, line.rule);
-    greater(
-        greater(
-            listed_premise(below, 0 < count, line.p0),
-            listed_premise(below, 1 < count, line.p1),
-        ),
-        greater(
-            listed_premise(below, 2 < count, line.p2),
-            listed_premise(below, 3 < count, line.p3),
-        ),
-    )
+    let count = table.premise_count(line.rule);
+    let p = listed_premise(numbers, 0 < count, line.p0);
+    let q = listed_premise(numbers, 1 < count, line.p1);
+    let r = listed_premise(numbers, 2 < count, line.p2);
+    let s = listed_premise(numbers, 3 < count, line.p3);
+    p.max(q).max(r.max(s))
 }
 
-// Of two lines that are used, the higher; the first if they are one.
-fn higher_use(first: Use, second: Use) -> Use
-    ensures { result ≡ higher_use first second }
+// Of a line that was found used, if one was, and another that is, the higher; the first if they are one.
+fn higher_use(found: Option<Use>, other: Use) -> Use
+    ensures { result ≡ higher_use found other }
 {
-    if first.above < second.above {
-        return second;
+    match found {
+        Some(first) if other.listed <= first.listed => first,
+        _ => other,
     }
-    first
 }
 
-// The lowest line that stays and uses a listed one, the highest that is so used; `count` if none is. Only lines behind
-// the first listed one can use any, and the last listed one is the highest that can be found.
-pub fn kept_use(
-    edition: usize,
-    lines: &[u8],
-    count: usize,
-    set: &[usize],
-    below: &[u16; 1025],
-    kept: &[u16; 1025],
-) -> usize
-    requires count_in_bounds { (20 * count ≤ length lines.now) × (count ≤ 1024) × CitingLines edition lines.now count }
-    requires rises { Rises set.now × AllLines count set.now × Numbering set.now count below.now kept.now }
-    ensures { result ≡ kept_use edition lines.now count set.now }
+// The lowest line that stays and uses a listed one, the highest that is so used. Only lines behind the first listed one
+// can use any, and the last listed one is the highest that can be found.
+pub fn kept_use(lines: Lines, set: LineSet, numbers: &LineNumbers) -> Option<usize>
+    requires { AllLines lines.count set.numbers.now × Numbering set.numbers.now lines.count numbers.now.below numbers.now.kept }
+    ensures { MatchOption result (kept_use lines.entry.edition lines.entry.rows.now lines.entry.count set.entry.numbers.now ≡ lines.entry.count) (λ place. (place < lines.entry.count) × (kept_use lines.entry.edition lines.entry.rows.now lines.entry.count set.entry.numbers.now ≡ place)) }
 {
-    let listed = set.len();
-    if listed == 0 {
-        return count;
+    let size = set.numbers.len();
+    if size == 0 {
+        return None;
     }
     let table = rule_table();
-    let last = set[listed - 1];
-    let left = count - listed;
-    let mut found = Use {
-        above: 0,
-        place: count,
-    };
-    let mut m = set[0];
-    while (m < left) & (found.above <= last) {
-        let place = kept[m] as usize;
-        let above = highest_listed(&table, read_line(edition, lines, place), below);
-        found = higher_use(found, Use { above, place });
-        m += 1;
+    let last = set.numbers[size - 1];
+    let left = lines.count - size;
+    let mut found: Option<Use> = None;
+    for m in set.numbers[0]..left {
+        let place = numbers.old_number(m);
+        let line = lines.line(place);
+        if let Some(listed) = highest_listed(&table, line, numbers) {
+            let highest = higher_use(found, Use { listed, place });
+            if highest.listed == last {
+                return Some(highest.place);
+            }
+            found = Some(highest);
+        }
     }
-    found.place
+    found.map(|highest| highest.place)
 }

@@ -10,7 +10,8 @@ use Rattle.terms.specs.Term.{Term, var}
 use Rattle.terms.specs.Substitution.{shift, substitute, instantiate, instantiate_both, ◌⟨◌⟩, on_both}
 use Rattle.terms.specs.FreeIndices.{FreeBelow}
 use Rattle.terms.specs.Tag.{Tag, Var, under, binders, shape}
-use Rattle.terms.proofs.Shape.{under_is, shift-shape, substitute-shape, free_shape, by_shape}
+use Rattle.terms.specs.Operations.{shift_goes, substitute_goes}
+use Rattle.terms.proofs.Shape.{under_is, free_shape, by_shape}
 use Rattle.terms.proofs.SubstitutionLaws.{at_cutoff, raise_bound, raise_free, image_bound, image_free}
 
 -- F goes to a term's children, k counting the binders crossed; R k n m relates the bounds n before F and m after it,
@@ -40,7 +41,7 @@ free_more n m t = free_after (λ k t. t) (λ τ l x k h. refl) (λ k n m. n ≤ 
 -- raised from any cutoff on: a bound n becomes n + d
 pub free_shift : (k n d : ℕ) (t : Term) → FreeBelow n t → FreeBelow (n + d) (shift k d t)
 unfolding FreeBelow shift
-free_shift k n d t = free_after (λ k. shift k d) (λ τ l x k. shift-shape τ l x k d) (λ k n m. n + d ≤ m)
+free_shift k n d t = free_after (λ k. shift k d) (shift_goes d).goes (λ k n m. n + d ≤ m)
     (λ b k n m h. omega (arith, under_is b n, under_is b m))
     (λ i k n m h low. at_cutoff _ k i (λ b. omega (arith, raise_bound k d i b)) (λ f. omega (arith, raise_free k d i f)))
     t k n (n + d) (omega arith)
@@ -48,7 +49,7 @@ free_shift k n d t = free_after (λ k. shift k d) (λ τ l x k. shift-shape τ l
 -- for any σ: where it puts terms below m for the indices below n, the bound n becomes m
 pub free_substitute : (k n m : ℕ) (σ : ℕ → Term) (t : Term) → ((i : ℕ) → i < n → FreeBelow m (σ i)) → FreeBelow (k + n) t → FreeBelow (k + m) (substitute k σ t)
 unfolding FreeBelow substitute
-free_substitute k n m σ t h = free_after (λ k. substitute k σ) (λ τ l x k. substitute-shape τ l x k σ) (λ k n' m'. (n' ≤ k + n) × (k + m ≤ m'))
+free_substitute k n m σ t h = free_after (λ k. substitute k σ) (substitute_goes σ).goes (λ k n' m'. (n' ≤ k + n) × (k + m ≤ m'))
     (λ b k n' m' r. omega (arith, under_is b k, under_is b n', under_is b m'))
     (λ i k n' m' r low. at_cutoff _ k i
     (λ b. subst (FreeBelow m') (sym (image_bound k σ i b)) (omega arith))
@@ -84,7 +85,7 @@ free_both n c a r f g = free_substitute₀ (suc (suc n)) n (instantiate_both a r
 -- back from the raised term: its bound was lower by 1
 pub free_shift_back : (k n : ℕ) (t : Term) → FreeBelow (k + suc n) (shift k 1 t) → FreeBelow (k + n) t
 unfolding FreeBelow shift
-free_shift_back k n t = free_before (λ k. shift k 1) (λ τ l x k. shift-shape τ l x k 1) (λ k n m. (k ≤ n) × (m ≤ suc n))
+free_shift_back k n t = free_before (λ k. shift k 1) (shift_goes 1).goes (λ k n m. (k ≤ n) × (m ≤ suc n))
     (λ b k n m r. omega (arith, under_is b k, under_is b n, under_is b m))
     (λ i k n m r f. at_cutoff _ k i (λ b. omega arith) (λ h. omega (arith, raise_free k 1 i h)))
     t k (k + n) (k + suc n) (omega arith)
@@ -101,7 +102,7 @@ instantiate_back k n m a (suc j) i low less e f = omega (arith, raise_free 0 k j
 -- back from B[a], whatever a is: the bound of B is at most one higher
 pub free_instantiate_back : (k n : ℕ) (a t : Term) → FreeBelow (k + n) (substitute k (instantiate a) t) → FreeBelow (k + suc n) t
 unfolding FreeBelow substitute
-free_instantiate_back k n a t = free_before (λ k. substitute k (instantiate a)) (λ τ l x k. substitute-shape τ l x k (instantiate a)) (λ k n m. (k < n) × (m < n))
+free_instantiate_back k n a t = free_before (λ k. substitute k (instantiate a)) (substitute_goes (instantiate a)).goes (λ k n m. (k < n) × (m < n))
     (λ b k n m r. omega (arith, under_is b k, under_is b n, under_is b m))
     (λ i k n m r f. at_cutoff _ k i (λ b. omega arith)
     (λ h. instantiate_back k n m a (i - k) i r.0 r.1 (omega arith) (subst (FreeBelow m) (image_free k (instantiate a) i h) f)))

@@ -2,34 +2,20 @@
 -- give.
 -- Assumes nothing.
 use mathlib.Core.Path.{◌≡◌, refl, subst}
-use mathlib.Core.Bool.{Bool, true, ◌&&◌}
-use mathlib.Core.Logic.{◌↔◌}
+use mathlib.Core.Bool.{true}
 use mathlib.Core.List.{List, [], ◌∷◌}
 use Prim.Native.Nat.{ℕ, zero, suc, ◌≤◌, ◌<◌}
 use native.Mathlib.Omega.{arith}
-use lib.Dec.{leb, ltb}
+use Rattle.std.proofs.lemmas.Grind.{common_steps}
 use lib.ListN.{get_or}
-use borrow.Author.Tests.{leb-true, ltb-true, le-leb, lt-ltb, lt-leb}
+use borrow.Author.Tests.{lt-leb}
 use Rattle.terms.specs.Tag.{tag_of, used}
 use Rattle.terms.specs.Rows.{word, tag, row_of}
 use Rattle.terms.specs.Table.{GoodRow, limit}
 use Rattle.terms.specs.Sizes.{fits_row}
 use Rattle.terms.specs.declared.rows.Row.{Row}
-use Rattle.terms.proofs.Tables.{and_left, and_right}
 use Rattle.terms.proofs.Shape.{AtChildren, each}
 use Rattle.terms.proofs.TagTables.{child-limit, arity_most}
-
--- six tests joined
-six : (p q a b c d : Bool) → ((p ≡ true) × (q ≡ true) × (a ≡ true) × (b ≡ true) × (c ≡ true) × (d ≡ true)) ↔ ((p && q && a && b && c && d) ≡ true)
-six p q a b c d = (λ h. rw (h.0, h.1, h.2, h.3, h.4, h.5), λ h. apart h)
-  where
-    apart : (p && q && a && b && c && d) ≡ true → (p ≡ true) × (q ≡ true) × (a ≡ true) × (b ≡ true) × (c ≡ true) × (d ≡ true)
-    apart h =
-        let h4 = and_left (p && q && a && b && c) d h in
-        let h3 = and_left (p && q && a && b) c h4 in
-        let h2 = and_left (p && q && a) b h3 in
-        let h1 = and_left (p && q) a h2 in
-        (and_left p q h1, and_right p q h1, and_right (p && q) a h2, and_right (p && q && a) b h3, and_right (p && q && a && b) c h4, and_right (p && q && a && b && c) d h)
 
 -- word j of five words
 unfoldable pub row_word : Row → ℕ → ℕ
@@ -37,19 +23,14 @@ row_word r j = get_or (r.tag ∷ r.a ∷ r.b ∷ r.c ∷ r.d ∷ []) j 0
 
 -- five words, whether or not a table holds them
 module _ (r : Row) (n : ℕ) where
-  abbrev below : ℕ → Bool
-  below j = ltb (row_word r j) (limit (tag_of r.tag) n j)
-
-  joined : ((leb 1 r.tag ≡ true) × (leb r.tag 13 ≡ true) × (below 1 ≡ true) × (below 2 ≡ true) × (below 3 ≡ true) × (below 4 ≡ true)) ↔ (fits_row r n ≡ true)
-  unfolding fits_row row_word
-  joined = six (leb 1 r.tag) (leb r.tag 13) (below 1) (below 2) (below 3) (below 4)
-
   module _ (h : fits_row r n ≡ true) where
     pub fits_tag : (1 ≤ r.tag) × (r.tag ≤ 13)
-    fits_tag = let s = joined.1 h in (leb-true _ _ s.0, leb-true _ _ s.1)
+    unfolding fits_row
+    fits_tag = grind (arith, common_steps)
 
     fits_operand : (j : ℕ) → 1 ≤ j → j ≤ 4 → row_word r j < limit (tag_of r.tag) n j
-    fits_operand = let s = joined.1 h in each _ 4 ((((tt, ltb-true _ _ s.2), ltb-true _ _ s.3), ltb-true _ _ s.4), ltb-true _ _ s.5)
+    unfolding fits_row row_word
+    fits_operand = each _ 4 ((((tt, grind (arith, common_steps)), grind (arith, common_steps)), grind (arith, common_steps)), grind (arith, common_steps))
 
     -- a child's number is below that of the row with these words
     pub fits_child : AtChildren (tag_of r.tag) (λ j. row_word r j < n)
@@ -72,10 +53,13 @@ module _ (bytes : List ℕ) (n : ℕ) where
       }
 
   pub good_fits : GoodRow bytes n → fits_row (row_of bytes n) n ≡ true
-  unfolding row_of row_word tag
+  unfolding row_of tag fits_row
   good_fits g =
-      let at : (j : ℕ) → 1 ≤ j → j ≤ 4 → ltb (word bytes n j) (limit (tag bytes n) n j) ≡ true = λ j low high. lt-ltb _ _ (g.operands j low high) in
-      (joined (row_of bytes n) n).0 (le-leb _ _ g.low, le-leb _ _ g.high, at 1 (omega arith) (omega arith), at 2 (omega arith) (omega arith), at 3 (omega arith) (omega arith), at 4 (omega arith) (omega arith))
+      let a = g.operands 1 (omega arith) (omega arith) in
+      let b = g.operands 2 (omega arith) (omega arith) in
+      let c = g.operands 3 (omega arith) (omega arith) in
+      let d = g.operands 4 (omega arith) (omega arith) in
+      grind (arith, common_steps)
 
   module _ (g : GoodRow bytes n) where
     -- a child's number is below its row's

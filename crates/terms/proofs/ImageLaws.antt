@@ -3,30 +3,16 @@
 use mathlib.Core.Path.{◌≡◌, refl, sym, ◌∙◌, ap}
 use mathlib.Core.Logic.{◌↔◌}
 use mathlib.Core.List.{List}
-use Prim.Native.Nat.{ℕ, zero, suc, ◌+◌, ◌-◌, ◌≤◌, zero-le}
-use native.Mathlib.Omega.{arith}
+use Prim.Native.Nat.{ℕ, zero, suc, ◌+◌, zero-le}
 use Rattle.terms.specs.Term.{Term, var, first, succ, ind}
 use Rattle.terms.proofs.SubstitutionLaws.{raise_free}
 use Rattle.terms.specs.Substitution.{shift, instantiate, outer_succ, instantiate_both}
 use Rattle.terms.specs.Tag.{child}
-use Rattle.terms.specs.Lists.{AllBelow}
-use Rattle.terms.specs.Images.{substitution, subst_rows, image_term, image_rows, image_number, lowered_of, image_of}
+use Rattle.terms.specs.Images.{substitution, image_term, lowered_of, image_of}
 use Rattle.terms.specs.declared.images.Subst.{Subst}
 use Rattle.terms.specs.declared.images.Subst.TheVariants as by
 use Rattle.terms.specs.declared.images.Image.{Image}
 use Rattle.terms.specs.declared.images.Image.TheVariants as image
-
-pub lowered_far : (nearest : Image) (i : ℕ) → (i ≡ 0 → ⊥) → image.Var (i - 1) ≡ lowered_of nearest i
-lowered_far nearest zero h = absurd (h refl)
-lowered_far nearest (suc i) h = ap image.Var (omega arith)
-
-pub raised_far : (i : ℕ) → (i ≡ 0 → ⊥) → image.Var (i + 1) ≡ image_of by.OuterSucc i
-raised_far zero h = absurd (h refl)
-raised_far (suc i) h = ap image.Var (omega arith)
-
-pub twice_far : (p a b c i : ℕ) (r : Image) → (i ≡ 0 → ⊥) → r ≡ lowered_of (image.Row a) (i - 1) → r ≡ image_of (by.Both p a b c) i
-twice_far p a b c zero r h e = absurd (h refl)
-twice_far p a b c (suc i) r h e = let back : suc i - 1 ≡ i = omega arith in e ∙ ap (lowered_of (image.Row a)) back
 
 -- an image of the nearest index, or a variable
 lowered_means : (bytes : List ℕ) (nearest : Image) (i : ℕ) → image_term bytes (lowered_of nearest i) ≡ instantiate (image_term bytes nearest) i
@@ -49,33 +35,6 @@ image_means bytes by.OuterSucc zero = refl
 image_means bytes by.OuterSucc (suc i) = refl
 image_means bytes (by.Both p a b c) zero = refl
 image_means bytes (by.Both p a b c) (suc i) = both_means bytes p a b c i
-
-lowered_small : (nearest : Image) (i : ℕ) → image_number nearest ≡ 0 → image_number (lowered_of nearest i) ≤ i
-lowered_small nearest zero h = omega arith
-lowered_small nearest (suc i) h = omega arith
-
-pub image_small : (p : Subst) (i : ℕ) → image_number (image_of p i) ≤ i + 1
-image_small (by.Row a) i = omega (arith, lowered_small (image.Row a) i refl)
-image_small by.Zero i = omega (arith, lowered_small image.Zero i refl)
-image_small (by.First a) i = omega (arith, lowered_small (image.First a) i refl)
-image_small by.OuterSucc zero = omega arith
-image_small by.OuterSucc (suc i) = omega arith
-image_small (by.Both p a b c) zero = omega arith
-image_small (by.Both p a b c) (suc i) = omega (arith, lowered_small (image.Row a) i refl)
-
-lowered_rows : (nearest : Image) (count i : ℕ) → AllBelow count (image_rows nearest) → AllBelow count (image_rows (lowered_of nearest i))
-lowered_rows nearest count zero h = h
-lowered_rows nearest count (suc i) h = tt
-
--- the rows that an image names are among those that are put
-pub image_rows_lem : (p : Subst) (i count : ℕ) → AllBelow count (subst_rows p) → AllBelow count (image_rows (image_of p i))
-image_rows_lem (by.Row a) i count h = lowered_rows (image.Row a) count i h
-image_rows_lem by.Zero i count h = lowered_rows image.Zero count i tt
-image_rows_lem (by.First a) i count h = lowered_rows (image.First a) count i h
-image_rows_lem by.OuterSucc zero count h = tt
-image_rows_lem by.OuterSucc (suc i) count h = tt
-image_rows_lem (by.Both p a b c) zero count h = h
-image_rows_lem (by.Both p a b c) (suc i) count h = lowered_rows (image.Row a) count i (h.1.0, tt)
 
 -- a term is a constructor's exactly if its own children make it one and are the parts
 pub first_parts : (t v x : Term) → v ≡ child t 1 → ((t ≡ first v) × (v ≡ x)) ↔ (t ≡ first x)

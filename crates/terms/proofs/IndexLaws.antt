@@ -1,20 +1,21 @@
 -- The index of rows: what a bucket's chain passes over cannot hold the words looked for.
 -- Assumes nothing.
 use mathlib.Core.Path.{◌≡◌, refl, sym, ◌∙◌, ap, subst}
-use mathlib.Core.Bool.{Bool, true, false, ◌||◌}
+use mathlib.Core.Bool.{true, false}
 use mathlib.Core.List.{List}
 use Prim.Native.Nat.{ℕ, zero, suc, ◌+◌, ◌-◌, ◌≤◌, ◌<◌}
 use native.Mathlib.Numerals.{add-one}
 use native.Mathlib.Omega.{arith}
+use Rattle.std.proofs.lemmas.Grind.{common_steps}
 use native.Mathlib.Decide.{ℕ_discrete}
-use lib.ListN.{get_or, set, replicate, length-set, length-replicate, get_or-replicate}
+use lib.ListN.{length, get_or, set, replicate, length-set, length-replicate, get_or-replicate}
 use lib.Seq.{get_or-set_same, get_or-set_other}
-use borrow.Author.Tests.{eq-eqb, ne_eqb}
 use Rattle.terms.specs.Decides.{Decides}
 use Rattle.terms.specs.Sizes.{repeated_below}
 use Rattle.terms.specs.Rows.{row_of, holds_row}
 use Rattle.terms.specs.Repetition.{OlderRowHolds}
 use Rattle.terms.specs.RowIndex.{bucket_of, latest, Indexed}
+use Rattle.terms.specs.declared.row_index.RowIndex.{RowIndex}
 use Rattle.terms.specs.declared.rows.Row.{Row}
 use Rattle.terms.proofs.Tests.{says_yes}
 use Rattle.terms.proofs.RepetitionLaws.{holds_row_lem, repeated_any}
@@ -32,64 +33,37 @@ module _ (bytes : List ℕ) where
   module _ (b : ℕ) where
     here : (n : ℕ) → bucket_of (row_of bytes n) ≡ b → latest bytes b (suc n) ≡ suc n
     unfolding latest
-    here n e = rw (eq-eqb (bucket_of (row_of bytes n)) b e, latest)
+    here n e = grind (arith, common_steps)
 
     past : (n : ℕ) → (bucket_of (row_of bytes n) ≡ b → ⊥) → latest bytes b (suc n) ≡ latest bytes b n
     unfolding latest
-    past n e = rw (ne_eqb (bucket_of (row_of bytes n)) b e, latest)
+    past n e = grind (arith, common_steps)
 
     low : (n : ℕ) → latest bytes b n ≤ n
     unfolding latest
     low zero = omega arith
-    low (suc n) = at (ℕ_discrete (bucket_of (row_of bytes n)) b) (low n)
-      where
-        at : Dec (bucket_of (row_of bytes n) ≡ b) → latest bytes b n ≤ n → latest bytes b (suc n) ≤ suc n
-        at (yes e) l = omega (arith, here n e)
-        at (no e) l = omega (arith, past n e)
+    low (suc n) = let l = low n in grind (arith, common_steps)
 
     -- where a chain stands at a row, the row lies in its bucket
     top : (i : ℕ) → latest bytes b (suc i) ≡ suc i → bucket_of (row_of bytes i) ≡ b
-    top i e = at (ℕ_discrete (bucket_of (row_of bytes i)) b)
-      where
-        at : Dec (bucket_of (row_of bytes i) ≡ b) → bucket_of (row_of bytes i) ≡ b
-        at (yes f) = f
-        at (no f) = absurd (omega (arith, past i f, low i))
+    unfolding latest
+    top i e = let l = low i in grind (arith, common_steps)
 
     again : (n : ℕ) → latest bytes b (latest bytes b n) ≡ latest bytes b n
     unfolding latest
     again zero = refl
-    again (suc n) = at (ℕ_discrete (bucket_of (row_of bytes n)) b) (again n)
-      where
-        at : Dec (bucket_of (row_of bytes n) ≡ b) → latest bytes b (latest bytes b n) ≡ latest bytes b n → latest bytes b (latest bytes b (suc n)) ≡ latest bytes b (suc n)
-        at (yes e) before = ap (latest bytes b) (here n e)
-        at (no e) before = ap (latest bytes b) (past n e) ∙ before ∙ sym (past n e)
+    again (suc n) = let l = again n in grind (arith, common_steps)
 
   module _ (r : Row) where
-    none : (n : ℕ) → (bucket_of (row_of bytes n) ≡ bucket_of r → ⊥) → holds_row bytes n r ≡ false
-    none n e = at (holds_row bytes n r) refl
-      where
-        at : (h : Bool) → holds_row bytes n r ≡ h → holds_row bytes n r ≡ false
-        at true f = absurd (e (same_bucket bytes n r f))
-        at false f = f
-
-    or_false : (h : Bool) → h || false ≡ h
-    or_false true = refl
-    or_false false = refl
-
     not_here : (n : ℕ) → holds_row bytes n r ≡ false → repeated_below bytes r (suc n) ≡ repeated_below bytes r n
     unfolding repeated_below
-    not_here n e = ap (λ h. repeated_below bytes r n || h) e ∙ or_false (repeated_below bytes r n)
+    not_here n e = grind (arith, common_steps)
 
     -- rows of other buckets are passed over
     passed : (n : ℕ) → repeated_below bytes r n ≡ repeated_below bytes r (latest bytes (bucket_of r) n)
-    unfolding latest
+    unfolding repeated_below latest
     passed zero = refl
-    passed (suc n) = at (ℕ_discrete (bucket_of (row_of bytes n)) (bucket_of r)) (passed n)
-      where
-        at : Dec (bucket_of (row_of bytes n) ≡ bucket_of r) → repeated_below bytes r n ≡ repeated_below bytes r (latest bytes (bucket_of r) n)
-            → repeated_below bytes r (suc n) ≡ repeated_below bytes r (latest bytes (bucket_of r) (suc n))
-        at (yes e) before = ap (repeated_below bytes r) (sym (here (bucket_of r) n e))
-        at (no e) before = not_here n (none n e) ∙ before ∙ ap (repeated_below bytes r) (sym (past (bucket_of r) n e))
+    passed (suc n) = let before = passed n in let held = same_bucket bytes n r in grind (arith, common_steps)
 
     -- `repeated`: the rows before `at` answer for the first n
     pub record Searching (n at : ℕ) : Type 0 where
@@ -97,8 +71,8 @@ module _ (bytes : List ℕ) where
       pub chained : latest bytes (bucket_of r) at ≡ at
       pub answer : repeated_below bytes r n ≡ repeated_below bytes r at
 
-    pub search_start : (n at b : ℕ) (heads links : List ℕ) → Indexed bytes n heads links → b ≡ bucket_of r → at ≡ get_or heads b 0 → Searching n at
-    search_start n at b heads links x e h =
+    pub search_start : (n at b : ℕ) (index : RowIndex) → Indexed bytes n index → b ≡ bucket_of r → at ≡ get_or index.heads b 0 → Searching n at
+    search_start n at b index x e h =
         record {
           within = omega (arith, low (bucket_of r) n, stands);
           chained = ap (latest bytes (bucket_of r)) stands ∙ again (bucket_of r) n ∙ sym stands;
@@ -119,9 +93,9 @@ module _ (bytes : List ℕ) where
           end : at ≡ 0
           end = omega arith
 
-      pub search_next : 0 < at → holds_row bytes (at - 1) r ≡ false → (next : ℕ) (heads links : List ℕ) → Indexed bytes n heads links → next ≡ get_or links (at - 1) 0
+      pub search_next : 0 < at → holds_row bytes (at - 1) r ≡ false → (next : ℕ) (index : RowIndex) → Indexed bytes n index → next ≡ get_or index.links (at - 1) 0
           → Searching n next × (next < at)
-      search_next l h next heads links x e = (
+      search_next l h next index x e = (
         record {
           within = omega (arith, s.within, stands, low (bucket_of r) (at - 1));
           chained = ap (latest bytes (bucket_of r)) stands ∙ again (bucket_of r) (at - 1) ∙ sym stands;
@@ -138,8 +112,8 @@ module _ (bytes : List ℕ) where
               e ∙ x.link (at - 1) (omega (arith, s.within))
               ∙ ap (λ c. latest bytes c (at - 1)) (top (bucket_of r) (at - 1) (ap (latest bytes (bucket_of r)) (sym up) ∙ s.chained ∙ up))
 
-  -- an empty index
-  pub index_start : Indexed bytes 0 (replicate 2048 0) (replicate 3072 0)
+  -- `RowIndex::new`
+  pub index_start : Indexed bytes 0 (record { heads = replicate 2048 0; links = replicate 3072 0 })
   unfolding latest
   index_start = record {
     buckets = length-replicate {A = ℕ} 2048 0;
@@ -148,36 +122,31 @@ module _ (bytes : List ℕ) where
     link = λ i l. absurd (omega arith);
   }
 
-  -- row n heads its bucket's chain
-  index_next : (n b : ℕ) (heads links : List ℕ) → Indexed bytes n heads links → n < 3072 → b ≡ bucket_of (row_of bytes n)
-      → Indexed bytes (n + 1) (set heads b (n + 1)) (set links n (get_or heads b 0))
-  index_next n b heads links x small e =
-      subst (λ m. Indexed bytes m (set heads b m) (set links n (get_or heads b 0))) (sym (add-one n))
+  -- `RowIndex::add`, where x is the index before: row n heads its bucket's chain
+  pub index_added : (n b : ℕ) (r : Row) (x y : RowIndex) → Indexed bytes n x → n < 3072 → r ≡ row_of bytes n → b ≡ bucket_of r
+      → y.heads ≡ set x.heads b (n + 1) → y.links ≡ set x.links n (get_or x.heads b 0) → Indexed bytes (n + 1) y
+  index_added n b r x y known small d e f g =
+      subst (λ m. Indexed bytes m y) (sym (add-one n))
       (record {
-        buckets = length-set heads b (suc n) ∙ x.buckets;
-        room = length-set links n (get_or heads b 0) ∙ x.room;
-        head = λ c k. head_of c k (ℕ_discrete c b);
-        link = λ i k. link_of i k (ℕ_discrete i n);
+        buckets = ap length f ∙ length-set x.heads b (n + 1) ∙ known.buckets;
+        room = ap length g ∙ length-set x.links n (get_or x.heads b 0) ∙ known.room;
+        head = λ c k. ap (λ l. get_or l c 0) f ∙ head_of c k (ℕ_discrete c b);
+        link = λ i k. ap (λ l. get_or l i 0) g ∙ link_of i k (ℕ_discrete i n);
       })
     where
-      l : b < 2048
-      l = bucket_below b (row_of bytes n) e
+      own : b ≡ bucket_of (row_of bytes n)
+      own = e ∙ ap bucket_of d
 
-      head_of : (c : ℕ) → c < 2048 → Dec (c ≡ b) → get_or (set heads b (suc n)) c 0 ≡ latest bytes c (suc n)
-      head_of c k (yes f) =
-          ap (λ m. get_or (set heads b (suc n)) m 0) f ∙ get_or-set_same heads b (suc n) 0 (omega (arith, x.buckets)) ∙ sym (here c n (sym e ∙ sym f))
-      head_of c k (no f) = get_or-set_other heads b c (suc n) 0 f ∙ x.head c k ∙ sym (past c n (λ g. f (sym (e ∙ g))))
+      low_bucket : b < 2048
+      low_bucket = bucket_below b r e
 
-      link_of : (i : ℕ) → i < suc n → Dec (i ≡ n) → get_or (set links n (get_or heads b 0)) i 0 ≡ latest bytes (bucket_of (row_of bytes i)) i
-      link_of i k (yes f) =
-          subst (λ m. get_or (set links n (get_or heads b 0)) m 0 ≡ latest bytes (bucket_of (row_of bytes m)) m) (sym f)
-          (get_or-set_same links n (get_or heads b 0) 0 (omega (arith, x.room)) ∙ x.head b l ∙ ap (λ c. latest bytes c n) e)
-      link_of i k (no f) = get_or-set_other links n i (get_or heads b 0) 0 f ∙ x.link i (omega arith)
+      head_of : (c : ℕ) → c < 2048 → Dec (c ≡ b) → get_or (set x.heads b (n + 1)) c 0 ≡ latest bytes c (suc n)
+      head_of c k (yes h) =
+          ap (λ m. get_or (set x.heads b (n + 1)) m 0) h ∙ get_or-set_same x.heads b (n + 1) 0 (omega (arith, known.buckets)) ∙ add-one n ∙ sym (here c n (sym own ∙ sym h))
+      head_of c k (no h) = get_or-set_other x.heads b c (n + 1) 0 h ∙ known.head c k ∙ sym (past c n (λ o. h (sym (own ∙ o))))
 
-  -- `check_rows`: what `add_row` leaves indexes one row more
-  pub index_added : (n b : ℕ) (r : Row) (heads links heads' links' : List ℕ) → Indexed bytes n heads links → n < 3072 → r ≡ row_of bytes n → b ≡ bucket_of r
-      → heads' ≡ set heads b (n + 1) → links' ≡ set links n (get_or heads b 0) → Indexed bytes (n + 1) heads' links'
-  index_added n b r heads links heads' links' x small d e f g =
-      subst (λ h. Indexed bytes (n + 1) h links') (sym f)
-      (subst (λ l. Indexed bytes (n + 1) (set heads b (n + 1)) l) (sym g)
-      (index_next n b heads links x small (e ∙ ap bucket_of d)))
+      link_of : (i : ℕ) → i < suc n → Dec (i ≡ n) → get_or (set x.links n (get_or x.heads b 0)) i 0 ≡ latest bytes (bucket_of (row_of bytes i)) i
+      link_of i k (yes h) =
+          subst (λ m. get_or (set x.links n (get_or x.heads b 0)) m 0 ≡ latest bytes (bucket_of (row_of bytes m)) m) (sym h)
+          (get_or-set_same x.links n (get_or x.heads b 0) 0 (omega (arith, known.room)) ∙ known.head b low_bucket ∙ ap (λ c. latest bytes c n) own)
+      link_of i k (no h) = get_or-set_other x.links n i (get_or x.heads b 0) 0 h ∙ known.link i (omega arith)

@@ -4,14 +4,13 @@ use mathlib.Core.Path.{◌≡◌, refl, sym, ◌∙◌, ap, subst}
 use mathlib.Core.Logic.{◌↔◌}
 use mathlib.Core.Bool.{Bool, true, ◌&&◌}
 use mathlib.Core.List.{List, [], ◌∷◌}
-use Prim.Native.Nat.{ℕ, zero, suc, ◌+◌, ◌*◌, ◌≤◌, ◌<◌}
+use Prim.Native.Nat.{ℕ, zero, suc, ◌≤◌, ◌<◌}
 use native.Mathlib.Omega.{arith}
 use lib.Dec.{eqb}
-use lib.ListN.{length}
 use borrow.Author.Tests.{eqb-true, eq-eqb}
 use Rattle.terms.specs.Term.{var}
 use Rattle.terms.specs.Decides.{Decides}
-use Rattle.terms.specs.Tag.{Var, Univ, tag_of, arity, used, shape, tag_in, number_in, child}
+use Rattle.terms.specs.Tag.{Var, tag_of, arity, used, shape, tag_in, number_in, child}
 use Rattle.terms.specs.Rows.{word, tag, term, holds_row}
 use Rattle.terms.specs.Table.{TermTable, RowsInTable}
 use Rattle.terms.specs.Lists.{AllBelow}
@@ -20,8 +19,7 @@ use Rattle.terms.specs.declared.rows.Row.{Row}
 use Rattle.terms.specs.declared.nodes.Node.{Node}
 use Rattle.terms.specs.declared.nodes.Node.TheVariants as node
 use Rattle.terms.proofs.Tables.{and_left, and_right}
-use Rattle.terms.proofs.Shape.{each, tag_number, tag_in-shape, tag_of_known, tag_of_inj, child-shape, child_beyond, number_shape, no_number}
-use Rattle.terms.proofs.TagTables.{tag_is}
+use Rattle.terms.proofs.Shape.{Each, each, tag_in-shape, tag_of_known, tag_of_inj, child-shape, number_shape}
 use Rattle.terms.proofs.GoodRows.{row_word, good_child}
 use Rattle.terms.proofs.TermLaws.{Described, spelled, row_described, unfolded, holds_spells}
 
@@ -59,23 +57,61 @@ holds_words bytes n r = (there, back)
     back : Holds bytes n r → holds_row bytes n r ≡ true
     back h = (holds_five bytes n r).0 (eq-eqb _ _ (h 1 (omega arith)), eq-eqb _ _ (h 0 (omega arith)), eq-eqb _ _ (h 2 (omega arith)), eq-eqb _ _ (h 3 (omega arith)), eq-eqb _ _ (h 4 (omega arith)))
 
+-- five words describe a row if the children that its tag has stand in the table, and no operand is used behind them
+module _ (count : ℕ) (r : Row) (low : 1 ≤ r.tag) (high : r.tag ≤ 13) where
+  describes : (m u : ℕ) → m ≡ arity (tag_of r.tag) → u ≡ used (tag_of r.tag) → Each (λ j. row_word r j < count) m
+      → Each (λ j. u < j → row_word r j ≡ 0) 4 → Described count (row_word r)
+  unfolding row_word
+  describes m u e f children unused =
+      record {
+        low = low;
+        high = high;
+        children = λ j at within. each (λ j. row_word r j < count) m children j at (subst (λ a. j ≤ a) (sym e) within);
+        unused =
+            λ j behind within.
+            each (λ j. u < j → row_word r j ≡ 0) 4 unused j (omega arith) within (subst (λ a. a < j) (sym f) behind);
+      }
+
+-- no operand is used behind none, behind one and behind two of them
+module _ (tag a : ℕ) where
+  behind_none : Each (λ j. 0 < j → row_word (record { tag = tag; a = 0; b = 0; c = 0; d = 0 }) j ≡ 0) 4
+  unfolding row_word
+  behind_none = ((((tt, λ l. refl), λ l. refl), λ l. refl), λ l. refl)
+
+  behind_one : Each (λ j. 1 < j → row_word (record { tag = tag; a = a; b = 0; c = 0; d = 0 }) j ≡ 0) 4
+  unfolding row_word
+  behind_one = ((((tt, λ l. absurd (omega arith)), λ l. refl), λ l. refl), λ l. refl)
+
+  behind_two : (b : ℕ) → Each (λ j. 2 < j → row_word (record { tag = tag; a = a; b = b; c = 0; d = 0 }) j ≡ 0) 4
+  unfolding row_word
+  behind_two b = ((((tt, λ l. absurd (omega arith)), λ l. absurd (omega arith)), λ l. refl), λ l. refl)
+
 -- a node whose children are rows of the table describes a row
 module _ (count : ℕ) where
   described : (n : Node) → AllBelow count (node_children n) → Described count (row_word (node_row n))
   unfolding row_word arity used tag_of
-  described (node.Var i) h = record { low = omega arith; high = omega arith; children = each _ 0 tt; unused = λ j low high. each (λ m. 1 < m → row_word (node_row (node.Var i)) m ≡ 0) 4 ((((tt, λ l. absurd (omega arith)), λ l. refl), λ l. refl), λ l. refl) j (omega arith) high low }
-  described (node.Univ l) h = record { low = omega arith; high = omega arith; children = each _ 0 tt; unused = λ j low high. each (λ m. 1 < m → row_word (node_row (node.Univ l)) m ≡ 0) 4 ((((tt, λ l. absurd (omega arith)), λ l. refl), λ l. refl), λ l. refl) j (omega arith) high low }
-  described (node.Pi a b) h = record { low = omega arith; high = omega arith; children = each _ 2 ((tt, h.0), h.1.0); unused = λ j low high. each (λ m. 2 < m → row_word (node_row (node.Pi a b)) m ≡ 0) 4 ((((tt, λ l. absurd (omega arith)), λ l. absurd (omega arith)), λ l. refl), λ l. refl) j (omega arith) high low }
-  described (node.Lam b) h = record { low = omega arith; high = omega arith; children = each _ 1 (tt, h.0); unused = λ j low high. each (λ m. 1 < m → row_word (node_row (node.Lam b)) m ≡ 0) 4 ((((tt, λ l. absurd (omega arith)), λ l. refl), λ l. refl), λ l. refl) j (omega arith) high low }
-  described (node.App b a) h = record { low = omega arith; high = omega arith; children = each _ 2 ((tt, h.0), h.1.0); unused = λ j low high. each (λ m. 2 < m → row_word (node_row (node.App b a)) m ≡ 0) 4 ((((tt, λ l. absurd (omega arith)), λ l. absurd (omega arith)), λ l. refl), λ l. refl) j (omega arith) high low }
-  described (node.Sigma a b) h = record { low = omega arith; high = omega arith; children = each _ 2 ((tt, h.0), h.1.0); unused = λ j low high. each (λ m. 2 < m → row_word (node_row (node.Sigma a b)) m ≡ 0) 4 ((((tt, λ l. absurd (omega arith)), λ l. absurd (omega arith)), λ l. refl), λ l. refl) j (omega arith) high low }
-  described (node.Pair a b) h = record { low = omega arith; high = omega arith; children = each _ 2 ((tt, h.0), h.1.0); unused = λ j low high. each (λ m. 2 < m → row_word (node_row (node.Pair a b)) m ≡ 0) 4 ((((tt, λ l. absurd (omega arith)), λ l. absurd (omega arith)), λ l. refl), λ l. refl) j (omega arith) high low }
-  described (node.First a) h = record { low = omega arith; high = omega arith; children = each _ 1 (tt, h.0); unused = λ j low high. each (λ m. 1 < m → row_word (node_row (node.First a)) m ≡ 0) 4 ((((tt, λ l. absurd (omega arith)), λ l. refl), λ l. refl), λ l. refl) j (omega arith) high low }
-  described (node.Second a) h = record { low = omega arith; high = omega arith; children = each _ 1 (tt, h.0); unused = λ j low high. each (λ m. 1 < m → row_word (node_row (node.Second a)) m ≡ 0) 4 ((((tt, λ l. absurd (omega arith)), λ l. refl), λ l. refl), λ l. refl) j (omega arith) high low }
-  described node.Nat h = record { low = omega arith; high = omega arith; children = each _ 0 tt; unused = λ j low high. each (λ m. 0 < m → row_word (node_row node.Nat) m ≡ 0) 4 ((((tt, λ l. refl), λ l. refl), λ l. refl), λ l. refl) j (omega arith) high low }
-  described node.Zero h = record { low = omega arith; high = omega arith; children = each _ 0 tt; unused = λ j low high. each (λ m. 0 < m → row_word (node_row node.Zero) m ≡ 0) 4 ((((tt, λ l. refl), λ l. refl), λ l. refl), λ l. refl) j (omega arith) high low }
-  described (node.Succ a) h = record { low = omega arith; high = omega arith; children = each _ 1 (tt, h.0); unused = λ j low high. each (λ m. 1 < m → row_word (node_row (node.Succ a)) m ≡ 0) 4 ((((tt, λ l. absurd (omega arith)), λ l. refl), λ l. refl), λ l. refl) j (omega arith) high low }
-  described (node.Ind p a b c) h = record { low = omega arith; high = omega arith; children = each _ 4 ((((tt, h.0), h.1.0), h.1.1.0), h.1.1.1.0); unused = λ j low high. each (λ m. 4 < m → row_word (node_row (node.Ind p a b c)) m ≡ 0) 4 ((((tt, λ l. absurd (omega arith)), λ l. absurd (omega arith)), λ l. absurd (omega arith)), λ l. absurd (omega arith)) j (omega arith) high low }
+  described (node.Var i) h = describes count _ (omega arith) (omega arith) 0 1 refl refl tt (behind_one 1 i)
+  described (node.Univ l) h = describes count _ (omega arith) (omega arith) 0 1 refl refl tt (behind_one 2 l)
+  described (node.Pi a b) h =
+      describes count _ (omega arith) (omega arith) 2 2 refl refl ((tt, h.0), h.1.0) (behind_two 3 a b)
+  described (node.Lam b) h = describes count _ (omega arith) (omega arith) 1 1 refl refl (tt, h.0) (behind_one 4 b)
+  described (node.App b a) h =
+      describes count _ (omega arith) (omega arith) 2 2 refl refl ((tt, h.0), h.1.0) (behind_two 5 b a)
+  described (node.Sigma a b) h =
+      describes count _ (omega arith) (omega arith) 2 2 refl refl ((tt, h.0), h.1.0) (behind_two 6 a b)
+  described (node.Pair a b) h =
+      describes count _ (omega arith) (omega arith) 2 2 refl refl ((tt, h.0), h.1.0) (behind_two 7 a b)
+  described (node.First a) h = describes count _ (omega arith) (omega arith) 1 1 refl refl (tt, h.0) (behind_one 8 a)
+  described (node.Second a) h = describes count _ (omega arith) (omega arith) 1 1 refl refl (tt, h.0) (behind_one 9 a)
+  described node.Nat h = describes count _ (omega arith) (omega arith) 0 0 refl refl tt (behind_none 10 0)
+  described node.Zero h = describes count _ (omega arith) (omega arith) 0 0 refl refl tt (behind_none 11 0)
+  described (node.Succ a) h = describes count _ (omega arith) (omega arith) 1 1 refl refl (tt, h.0) (behind_one 12 a)
+  described (node.Ind p a b c) h =
+      describes count _ (omega arith) (omega arith) 4 4 refl refl ((((tt, h.0), h.1.0), h.1.1.0), h.1.1.1.0) all_used
+    where
+      all_used : Each (λ j. 4 < j → row_word (node_row (node.Ind p a b c)) j ≡ 0) 4
+      all_used =
+          ((((tt, λ l. absurd (omega arith)), λ l. absurd (omega arith)), λ l. absurd (omega arith)), λ l. absurd (omega arith))
 
 -- the row of a node spells its term
 node_spelled : (bytes : List ℕ) (n : Node) → spelled bytes (row_word (node_row n)) ≡ node_term bytes n
@@ -95,16 +131,18 @@ node_spelled bytes (node.Succ a) = refl
 node_spelled bytes (node.Ind p a b c) = refl
 
 -- `is_node`
-pub node_decided : (bytes : List ℕ) (n : ℕ) (m : Node) → RowsInTable bytes (n ∷ node_children m) → (row : Row) (r : Bool) → row ≡ node_row m → r ≡ holds_row bytes n row → Decides r (term bytes n ≡ node_term bytes m)
+pub node_decided : (bytes : List ℕ) (n : ℕ) (m : Node) → RowsInTable bytes (n ∷ node_children m)
+    → (row : Row) (r : Bool) → row ≡ node_row m → r ≡ holds_row bytes n row
+    → Decides r (term bytes n ≡ node_term bytes m)
 node_decided bytes n m g row r e f =
     let spells = holds_spells bytes g.count g.table n g.below.0 (row_word (node_row m)) (described g.count m g.below.1) in
     let words = holds_words bytes n (node_row m) in
     let whole : r ≡ holds_row bytes n (node_row m) = f ∙ ap (holds_row bytes n) e in
     (λ h. spells.0 (words.0 (sym whole ∙ h)) ∙ node_spelled bytes m, λ h. whole ∙ words.1 (spells.1 (h ∙ sym (node_spelled bytes m))))
 
--- a row of a well-formed table is whole
-pub row_whole : (bytes : List ℕ) (count n : ℕ) → TermTable bytes count → n < count → 10 * n + 10 ≤ length bytes
-row_whole bytes count n t h = omega (arith, t.whole)
+-- row n has so many children
+abbrev pub row_arity : List ℕ → ℕ → ℕ
+row_arity bytes n = arity (tag_in (term bytes n))
 
 module _ (bytes : List ℕ) (count : ℕ) (table : TermTable bytes count) (n : ℕ) (h : n < count) where
   pub row_tag : tag_in (term bytes n) ≡ tag_of (word bytes n 0)
@@ -112,50 +150,29 @@ module _ (bytes : List ℕ) (count : ℕ) (table : TermTable bytes count) (n : �
       let d = row_described bytes count table n h in
       ap tag_in (unfolded bytes count table n h) ∙ tag_in-shape _ (word bytes n 1) _ (tag_of_known _ d.low d.high)
 
-  pub child_is : (j : ℕ) → 1 ≤ j → j ≤ arity (tag_of (word bytes n 0)) → term bytes (word bytes n j) ≡ child (term bytes n) j
-  child_is j low high = sym (ap (λ t. child t j) (unfolded bytes count table n h) ∙ child-shape _ (word bytes n 1) (λ i. term bytes (word bytes n i)) j low high)
+  -- the words have as many children as the term
+  in_words : (j : ℕ) → j ≤ row_arity bytes n → j ≤ arity (tag_of (word bytes n 0))
+  in_words j h = subst (λ τ. j ≤ arity τ) row_tag h
 
-  pub child_before : (j : ℕ) → 1 ≤ j → j ≤ arity (tag_of (word bytes n 0)) → word bytes n j < n
+  pub child_is : (j : ℕ) → 1 ≤ j → j ≤ row_arity bytes n → term bytes (word bytes n j) ≡ child (term bytes n) j
+  child_is j low high =
+      sym (ap (λ t. child t j) (unfolded bytes count table n h) ∙ child-shape _ (word bytes n 1) (λ i. term bytes (word bytes n i)) j low (in_words j high))
+
+  pub child_before : (j : ℕ) → 1 ≤ j → j ≤ row_arity bytes n → word bytes n j < n
   unfolding tag
-  child_before j low high = good_child bytes n (table.rows n h) j low high
+  child_before j low high = good_child bytes n (table.rows n h) j low (in_words j high)
 
-  -- `child`, where v is the row's tag and m its arity
-  module _ (j v m : ℕ) (e : v ≡ word bytes n 0) (f : m ≡ arity (tag_of v)) where
-    arity_is : m ≡ arity (tag_of (word bytes n 0))
-    arity_is = f ∙ ap (λ k. arity (tag_of k)) e
-
-    pub child-found : (w : ℕ) → 1 ≤ j → j ≤ m → w ≡ word bytes n j → (term bytes w ≡ child (term bytes n) j) × (w ≤ n)
-    child-found w low high k =
-        let l : j ≤ arity (tag_of (word bytes n 0)) = subst (λ a. j ≤ a) arity_is high in
-        let b = child_before j low l in
-        (ap (term bytes) k ∙ child_is j low l, omega arith)
-
-    pub child_missing : m < j → term bytes n ≡ child (term bytes n) j
-    child_missing l = sym (child_beyond (term bytes n) j (subst (λ a. a < j) (arity_is ∙ ap arity (sym row_tag)) l))
-
-  -- a row with the tag 1 spells a variable
-  pub variable_row : (v i : ℕ) → v ≡ word bytes n 0 → v ≡ 1 → i ≡ word bytes n 1 → term bytes n ≡ var i
-  unfolding shape tag_of
-  variable_row v i e f g = unfolded bytes count table n h ∙ (λ p. shape (tag_of ((sym e ∙ f) p)) (sym g p) (λ j. term bytes (word bytes n j)))
-
-  numbered : (m : ℕ) → 1 ≤ m → m ≤ 2 → arity (tag_of m) < used (tag_of m)
-  unfolding arity used tag_of
-  numbered m low high = each (λ i. arity (tag_of i) < used (tag_of i)) 2 ((tt, omega arith), omega arith) m low high
+  -- a variable's row
+  pub variable_row : {i : ℕ} → tag_in (term bytes n) ≡ Var → i ≡ word bytes n 1 → term bytes n ≡ var i
+  unfolding shape
+  variable_row e f =
+      unfolded bytes count table n h ∙ (λ p. shape ((sym row_tag ∙ e) p) (sym f p) (λ j. term bytes (word bytes n j)))
 
   -- `number`
-  pub number_is : word bytes n 0 ≤ 2 → word bytes n 1 ≡ number_in (term bytes n)
+  pub number_is : arity (tag_in (term bytes n)) < used (tag_in (term bytes n)) → word bytes n 1 ≡ number_in (term bytes n)
   number_is l =
-      let d = row_described bytes count table n h in
-      sym (ap number_in (unfolded bytes count table n h) ∙ number_shape _ (word bytes n 1) _ (numbered (word bytes n 0) d.low l))
-
-  pub number_none : 2 < word bytes n 0 → 0 ≡ number_in (term bytes n)
-  unfolding tag_number
-  number_none l =
-      let d = row_described bytes count table n h in
-      sym (ap number_in (unfolded bytes count table n h) ∙ no_number _ (word bytes n 1) _ (λ e. other 1 (omega arith) (tag_is Var _ d.high e)) (λ e. other 2 (omega arith) (tag_is Univ _ d.high e)))
-    where
-      other : (m : ℕ) → m ≤ 2 → word bytes n 0 ≡ m → ⊥
-      other m k e = omega arith
+      let numbered = subst (λ τ. arity τ < used τ) row_tag l in
+      sym (ap number_in (unfolded bytes count table n h) ∙ number_shape _ (word bytes n 1) _ numbered)
 
 -- `same_head`
 pub heads_decided : (bytes : List ℕ) (t u : ℕ) → RowsInTable bytes (t ∷ u ∷ []) → (v w m n : ℕ)

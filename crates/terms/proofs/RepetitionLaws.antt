@@ -3,7 +3,7 @@
 use mathlib.Core.Path.{◌≡◌, sym, ◌∙◌, ap}
 use mathlib.Core.Logic.Iff
 use mathlib.Core.Logic.{◌↔◌, ◌⊎◌, inl, inr, ⊎_elim}
-use mathlib.Core.Bool.{true}
+use mathlib.Core.Bool.{Bool, true}
 use mathlib.Core.List.{List}
 use Prim.Native.Nat.{ℕ, zero, suc}
 use native.Mathlib.Omega.{arith}
@@ -13,7 +13,7 @@ use Rattle.terms.specs.Sizes.{repeated_below}
 use Rattle.terms.specs.Rows.{row_of, holds_row}
 use Rattle.terms.specs.Repetition.{OlderRowHolds}
 use Rattle.terms.specs.declared.rows.Row.{Row}
-use Rattle.terms.proofs.Tests.{says_no, decides_via, decides_either}
+use Rattle.terms.proofs.Tests.{says_no, decides_same, decides_via, decides_either}
 use Rattle.terms.proofs.Shape.{below_or_last}
 use Rattle.terms.proofs.GoodRows.{row_word, row_word_lem}
 use Rattle.terms.proofs.NodeLaws.{Holds, holds_words}
@@ -47,3 +47,7 @@ module _ (bytes : List ℕ) where
     repeated_any zero = says_no (λ h. absurd (omega (arith, h.1)))
     repeated_any (suc n) =
         decides_via (one_more_lem n) (decides_either (repeated_any n) (holds_row_lem n r))
+
+    -- so a test that decides it answers what the definition does
+    pub repeated_told : (n : ℕ) (q : Bool) → Decides q (OlderRowHolds bytes r n) → repeated_below bytes r n ≡ q
+    repeated_told n q d = decides_same (repeated_below bytes r n) q (repeated_any n) d

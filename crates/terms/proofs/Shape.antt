@@ -12,7 +12,6 @@ use lib.ListN.{length, get_or-eq_default}
 use mathlib.Core.Bool.{false}
 use borrow.Author.Tests.{eqb-false}
 use Rattle.terms.specs.Term.{Term, var, univ, pi, lam, app, sigma, pair, first, second, nat, zer, succ, ind, size}
-use Rattle.terms.specs.Substitution.{shift, substitute}
 use Rattle.terms.specs.FreeIndices.{FreeBelow}
 use Rattle.terms.specs.Tag.{Tag, none, Var, Univ, Pi, Lam, App, Sigma, Pair, First, Second, Nat, Zero, Succ, Ind, tag_of, arity, used, binders, under, shape, tag_in, number_in, children, child}
 use Rattle.terms.specs.Sizes.{sum_to}
@@ -283,40 +282,6 @@ size-shape Nat n x = omega arith
 size-shape Zero n x = omega arith
 size-shape Succ n x = omega arith
 size-shape Ind n x = omega arith
-
-pub substitute-shape : (τ : Tag) (n : ℕ) (x : ℕ → Term) (k : ℕ) (σ : (ℕ → Term)) → τ ≢ Var → substitute k σ (shape τ n x) ≡ shape τ n (λ j. substitute (under (binders τ j) k) σ (x j))
-unfolding shape substitute under binders
-substitute-shape none n x k σ h = refl
-substitute-shape Var n x k σ h = absurd (h refl)
-substitute-shape Univ n x k σ h = refl
-substitute-shape Pi n x k σ h = refl
-substitute-shape Lam n x k σ h = refl
-substitute-shape App n x k σ h = refl
-substitute-shape Sigma n x k σ h = refl
-substitute-shape Pair n x k σ h = refl
-substitute-shape First n x k σ h = refl
-substitute-shape Second n x k σ h = refl
-substitute-shape Nat n x k σ h = refl
-substitute-shape Zero n x k σ h = refl
-substitute-shape Succ n x k σ h = refl
-substitute-shape Ind n x k σ h = refl
-
-pub shift-shape : (τ : Tag) (n : ℕ) (x : ℕ → Term) (k : ℕ) (d : ℕ) → τ ≢ Var → shift k d (shape τ n x) ≡ shape τ n (λ j. shift (under (binders τ j) k) d (x j))
-unfolding shape shift under binders
-shift-shape none n x k d h = refl
-shift-shape Var n x k d h = absurd (h refl)
-shift-shape Univ n x k d h = refl
-shift-shape Pi n x k d h = refl
-shift-shape Lam n x k d h = refl
-shift-shape App n x k d h = refl
-shift-shape Sigma n x k d h = refl
-shift-shape Pair n x k d h = refl
-shift-shape First n x k d h = refl
-shift-shape Second n x k d h = refl
-shift-shape Nat n x k d h = refl
-shift-shape Zero n x k d h = refl
-shift-shape Succ n x k d h = refl
-shift-shape Ind n x k d h = refl
 
 pub free_shape : (τ : Tag) (m : ℕ) (x : ℕ → Term) (n : ℕ) → τ ≢ Var → FreeBelow n (shape τ m x) ↔ AtChildren τ (λ j. FreeBelow (under (binders τ j) n) (x j))
 unfolding shape FreeBelow under binders arity

@@ -9,7 +9,8 @@ use lib.Dec.{ltb}
 use borrow.Author.Tests.{ltb-true, ltb-false, lt-ltb, le-ltb}
 use Rattle.terms.specs.Term.{Term, var}
 use Rattle.terms.specs.Substitution.{raise, shift, image_under, substitute, raise_by}
-use Rattle.terms.proofs.Shape.{shape_cong, shift-shape, substitute-shape, by_shape}
+use Rattle.terms.specs.Operations.{shift_goes, substitute_goes}
+use Rattle.terms.proofs.Shape.{shape_cong, by_shape}
 
 -- under k binders an index is bound or free: what follows in both cases holds
 pub at_cutoff : (P : Type 0) (k i : ℕ) → (i < k → P) → (k ≤ i → P) → P
@@ -41,7 +42,7 @@ pub shift_zero : (k : ℕ) (t : Term) → shift k 0 t ≡ t
 unfolding shift
 shift_zero k t = by_shape (λ t. (k : ℕ) → shift k 0 t ≡ t)
     (λ i k. at_cutoff _ k i (λ h. ap var (raise_bound k 0 i h)) (λ h. ap var (raise_free k 0 i h ∙ omega arith)))
-    (λ τ n x h _ at k. shift-shape τ n x k 0 h ∙ shape_cong τ n _ x (λ j low high. at j low high _))
+    (λ τ n x h _ at k. (shift_goes 0).goes τ n x k h ∙ shape_cong τ n _ x (λ j low high. at j low high _))
     t k
 
 pub shift_as_substitution : (k d : ℕ) (t : Term) → shift k d t ≡ substitute k (raise_by d) t
@@ -51,7 +52,7 @@ shift_as_substitution k d t = by_shape (λ t. (k : ℕ) → shift k d t ≡ subs
     (λ h. ap var (raise_bound k d i h) ∙ sym (image_bound k (raise_by d) i h))
     (λ h. let e : raise k d i ≡ raise 0 k (i - k + d) = omega (arith, raise_free k d i h, raise_free 0 k (i - k + d) zero-le) in
     ap var e ∙ sym (image_free k (raise_by d) i h)))
-    (λ τ n x h _ at k. shift-shape τ n x k d h ∙ shape_cong τ n _ _ (λ j low high. at j low high _) ∙ sym (substitute-shape τ n x k _ h))
+    (λ τ n x h _ at k. (shift_goes d).goes τ n x k h ∙ shape_cong τ n _ _ (λ j low high. at j low high _) ∙ sym ((substitute_goes _).goes τ n x k h))
     t k
 
 pub substitute_cong : (k : ℕ) (σ ρ : ℕ → Term) → ((i : ℕ) → σ i ≡ ρ i) → (t : Term) → substitute k σ t ≡ substitute k ρ t

@@ -10,18 +10,19 @@ use native.Mathlib.Omega.{arith}
 use lib.Dec.{ltb}
 use lib.ListN.{length, get_or, length-append, get_or-append}
 use lib.Seq.{get_or_at}
+use Rattle.std.specs.Prelude.{Result, Ok, Err}
 use Rattle.terms.specs.Term.{size}
 use Rattle.terms.specs.Tag.{arity}
 use Rattle.terms.specs.Decides.{Decides}
 use Rattle.terms.specs.Rows.{word, tag, term, row_of}
 use Rattle.terms.specs.Table.{GoodRow, TermTable, RepeatsRow, RowFault, broken, repeated, large, FirstFaultyRow, TreeSizes}
 use Rattle.terms.specs.Search.{ends, goes}
-use Rattle.terms.specs.Sizes.{fits_row, repeated_below, sum_to, row_size, size_answer, row_answer, Checked, checked, row_step, check_terms}
-use Rattle.terms.specs.declared.sizes.RowAnswer.{RowAnswer}
-use Rattle.terms.specs.declared.sizes.RowAnswer.TheVariants.{Fault, Size}
-use Rattle.terms.specs.declared.sizes.TermsAnswer.{TermsAnswer}
-use Rattle.terms.specs.declared.sizes.TermsAnswer.TheVariants.{NoFault, Faulty}
-use Rattle.terms.proofs.Tests.{says_lt, refuted, decides_via, clash}
+use Rattle.terms.specs.Faults.{number_of}
+use Rattle.terms.specs.Sizes.{fits_row, repeated_below, sum_to, row_size, size_answer, row_answer, TermsAnswer, faultless, faulty, Names, Checked, checked, row_step, check_terms}
+use Rattle.terms.specs.declared.sizes.RowFault.{RowFault as Fault}
+use Rattle.terms.specs.declared.sizes.RowFault.TheVariants.{Malformed, Repeated, TooLarge}
+use Rattle.terms.specs.declared.sizes.TermsError.{TermsError}
+use Rattle.terms.proofs.Tests.{says_lt, refuted, decides_via}
 use Rattle.terms.proofs.SearchLaws.{Between, between_none, between_next, After, search_keeps, Answers, stops, passes, one_answer}
 use Rattle.terms.proofs.Shape.{AtChildren, below_or_last, size-shape}
 use Rattle.terms.proofs.GoodRows.{fits_good, good_fits, good_child}
@@ -62,13 +63,14 @@ module _ (bytes : List ℕ) where
     pub small : size (term bytes n) ≤ 65535
 
   -- what the answer for row n says of it
-  abbrev RowSays : ℕ → RowAnswer → Type 0
-  RowSays n (Fault number) = RowFault bytes n number
-  RowSays n (Size s) = (s ≡ size (term bytes n)) × FaultlessRow n
+  abbrev RowSays : ℕ → Result ℕ Fault → Type 0
+  RowSays n (Err fault) = RowFault bytes n (number_of fault)
+  RowSays n (Ok s) = (s ≡ size (term bytes n)) × FaultlessRow n
 
   module _ (n : ℕ) (sizes : List ℕ) (table : TermTable bytes n) (known : TreeSizes bytes n sizes) where
     on_size : GoodRow bytes n → (RepeatsRow bytes n → ⊥) → (b : Bool) → Decides b (65535 < row_size bytes n sizes)
-        → RowSays n (elim b [ true ↦ Fault 7 | false ↦ Size (row_size bytes n sizes) ])
+        → RowSays n (elim b [ true ↦ Err TooLarge | false ↦ Ok (row_size bytes n sizes) ])
+    unfolding number_of
     on_size good new true d = large good new (subst (λ s. 65535 < s) (sizes_are n sizes table known good) (d.0 refl))
     on_size good new false d =
         let is = sizes_are n sizes table known good in
@@ -76,19 +78,19 @@ module _ (bytes : List ℕ) where
         (is, record { good = good; new = new; small = subst (λ s. s ≤ 65535) is small })
 
     on_repetition : GoodRow bytes n → (b : Bool) → Decides b (RepeatsRow bytes n)
-        → RowSays n (elim b [ true ↦ Fault 6 | false ↦ size_answer (row_size bytes n sizes) ])
-    unfolding size_answer
+        → RowSays n (elim b [ true ↦ Err Repeated | false ↦ size_answer (row_size bytes n sizes) ])
+    unfolding size_answer number_of
     on_repetition good true d = repeated good (d.0 refl)
     on_repetition good false d = let s = row_size bytes n sizes in on_size good (refuted d refl) (ltb 65535 s) (says_lt 65535 s)
 
     row_says : RowSays n (row_answer bytes n sizes)
-    unfolding row_answer
+    unfolding row_answer number_of
     row_says = on (fits_row (row_of bytes n) n) (fits_says n)
       where
         on : (b : Bool) → Decides b (GoodRow bytes n)
             → RowSays n (elim b [
-              | false ↦ Fault 5
-              | true ↦ elim (repeated_below bytes (row_of bytes n) n) [ true ↦ Fault 6 | false ↦ size_answer (row_size bytes n sizes) ]
+              | false ↦ Err Malformed
+              | true ↦ elim (repeated_below bytes (row_of bytes n) n) [ true ↦ Err Repeated | false ↦ size_answer (row_size bytes n sizes) ]
             ])
         on true d = on_repetition (d.0 refl) (repeated_below bytes (row_of bytes n) n) (repeated_says n)
         on false d = broken (refuted d refl)
@@ -143,18 +145,37 @@ module _ (bytes : List ℕ) where
   one_fault n a b (large _ new _) (repeated _ r) = absurd (new r)
   one_fault n a b (large _ _ _) (large _ _ _) = refl
 
+  -- a fault is told by its number
+  one_number : (a b : Fault) → number_of a ≡ number_of b → a ≡ b
+  unfolding number_of
+  one_number Malformed Malformed e = refl
+  one_number Malformed Repeated e = absurd (omega (arith, e))
+  one_number Malformed TooLarge e = absurd (omega (arith, e))
+  one_number Repeated Malformed e = absurd (omega (arith, e))
+  one_number Repeated Repeated e = refl
+  one_number Repeated TooLarge e = absurd (omega (arith, e))
+  one_number TooLarge Malformed e = absurd (omega (arith, e))
+  one_number TooLarge Repeated e = absurd (omega (arith, e))
+  one_number TooLarge TooLarge e = refl
+
+  fault_numbered : {n number : ℕ} → RowFault bytes n number → (fault : Fault) × (number_of fault ≡ number)
+  unfolding number_of
+  fault_numbered (broken _) = (Malformed, refl)
+  fault_numbered (repeated _ _) = (Repeated, refl)
+  fault_numbered (large _ _ _) = (TooLarge, refl)
+
   -- the answer for row n is one of its faults
   abbrev FaultAt : ℕ → TermsAnswer → Type 0
-  FaultAt n a = (number : ℕ) × (a ≡ Faulty number n) × RowFault bytes n number
+  FaultAt n a = (fault : Fault) × (a ≡ faulty fault n) × RowFault bytes n (number_of fault)
 
   module _ (count : ℕ) (whole : 10 * count ≤ length bytes) where
     -- so many sizes are left
     abbrev sized : TermsAnswer → ℕ
-    sized NoFault = count
-    sized (Faulty number place) = place
+    sized (Ok _) = count
+    sized (Err e) = e.place
 
     abbrev Outcome : Checked → Type 0
-    Outcome c = Answers FaultlessRow FaultAt NoFault 0 count c.answer × TreeSizes bytes (sized c.answer) c.sizes
+    Outcome c = Answers FaultlessRow FaultAt faultless 0 count c.answer × TreeSizes bytes (sized c.answer) c.sizes
 
     abbrev Inv : ℕ → List ℕ → Type 0
     Inv n sizes = Between FaultlessRow 0 n × TreeSizes bytes n sizes
@@ -163,10 +184,10 @@ module _ (bytes : List ℕ) where
     unfolding row_step
     keeps n sizes h i = on (row_answer bytes n sizes) (row_says n sizes (rows_table n (omega arith) i.0) i.1)
       where
-        on : (a : RowAnswer) → RowSays n a → After Outcome (Inv (suc n))
-            (elim a [ Fault number ↦ ends (checked (Faulty number n) sizes) | Size s ↦ goes (sizes ++ s ∷ []) ])
-        on (Fault number) f = (stops n (omega arith) h i.0 (number, refl, f), i.1)
-        on (Size s) o = (
+        on : (a : Result ℕ Fault) → RowSays n a → After Outcome (Inv (suc n))
+            (elim a [ Err fault ↦ ends (checked (faulty fault n) sizes) | Ok s ↦ goes (sizes ++ s ∷ []) ])
+        on (Err fault) f = (stops n (omega arith) h i.0 (fault, refl, f), i.1)
+        on (Ok s) o = (
           between_next FaultlessRow 0 n i.0 o.1,
           subst (λ m. TreeSizes bytes (suc n) (sizes ++ m ∷ [])) (sym o.0) (sizes_next n sizes i.1),
         )
@@ -174,49 +195,59 @@ module _ (bytes : List ℕ) where
     outcome : Outcome (check_terms bytes count)
     unfolding check_terms
     outcome =
-        search_keeps (row_step bytes) (checked NoFault) count Inv Outcome keeps (λ sizes i. (passes i.0 refl, i.1))
+        search_keeps (row_step bytes) (checked faultless) count Inv Outcome keeps (λ sizes i. (passes i.0 refl, i.1))
         count 0 [] (omega arith) (between_none FaultlessRow 0, record { long = refl; each = λ k h. absurd (omega arith) })
 
-    means : (a : TermsAnswer) → ((check_terms bytes count).answer ≡ a) ↔ Answers FaultlessRow FaultAt NoFault 0 count a
+    means : (a : TermsAnswer) → ((check_terms bytes count).answer ≡ a) ↔ Answers FaultlessRow FaultAt faultless 0 count a
     means a = (
-      λ e. subst (Answers FaultlessRow FaultAt NoFault 0 count) e outcome.0,
-      λ m. one_answer FaultlessRow FaultAt (λ n b row f. fault_free n f.0 row f.2)
-          (λ n b c f g. f.1 ∙ ap (λ k. Faulty k n) (one_fault n f.0 g.0 f.2 g.2) ∙ sym g.1)
-          NoFault 0 count _ a outcome.0 m,
+      λ e. subst (Answers FaultlessRow FaultAt faultless 0 count) e outcome.0,
+      λ m. one_answer FaultlessRow FaultAt (λ n b row f. fault_free n (number_of f.0) row f.2)
+          (λ n b c f g. f.1 ∙ ap (λ k. faulty k n) (one_number f.0 g.0 (one_fault n (number_of f.0) (number_of g.0) f.2 g.2)) ∙ sym g.1)
+          faultless 0 count _ a outcome.0 m,
     )
 
     -- the check finds no fault exactly if the table is well formed
-    pub check_faultless : ((check_terms bytes count).answer ≡ NoFault) ↔ TermTable bytes count
-    check_faultless = (λ e. from ((means NoFault).0 e), λ table. (means NoFault).1 (passes (table_rows count table) refl))
+    pub check_faultless : ((check_terms bytes count).answer ≡ faultless) ↔ TermTable bytes count
+    check_faultless = (λ e. from ((means faultless).0 e), λ table. (means faultless).1 (passes (table_rows count table) refl))
       where
-        from : Answers FaultlessRow FaultAt NoFault 0 count NoFault → TermTable bytes count
-        from (stops p low h before f) = clash (cc f.1)
+        from : Answers FaultlessRow FaultAt faultless 0 count faultless → TermTable bytes count
+        from (stops p low h before f) = absurd (cc f.1)
         from (passes rows e) = rows_table count whole rows
 
     -- and then the sizes are those of all the trees
     pub faultless_sizes : TermTable bytes count → TreeSizes bytes count (check_terms bytes count).sizes
     faultless_sizes table = subst (λ a. TreeSizes bytes (sized a) (check_terms bytes count).sizes) (check_faultless.1 table) outcome.1
 
+    -- the check finds a fault exactly if it is the first faulty row's
+    pub check_fault : (fault : Fault) (place : ℕ) → ((check_terms bytes count).answer ≡ faulty fault place) ↔ FirstFaultyRow bytes count (number_of fault) place
+    check_fault fault place = (
+      λ e. from ((means (faulty fault place)).0 e),
+      λ f.
+          (means (faulty fault place)).1
+          (stops place (omega arith) f.within (table_rows place f.before) (fault, refl, f.fault)),
+    )
+      where
+        from : Answers FaultlessRow FaultAt faultless 0 count (faulty fault place) → FirstFaultyRow bytes count (number_of fault) place
+        from (stops p low h before f) =
+            let same : ◌≡◌ {A = TermsError} (record { fault = f.0; place = p }) (record { fault = fault; place = place }) = cc f.1 in
+            let there : p ≡ place = ap (λ e. e.place) same in
+            record {
+              within = omega arith;
+              before = rows_table place (omega arith) (subst (Between FaultlessRow 0) there before);
+              fault = subst₂ (RowFault bytes) there (ap (λ e. number_of e.fault) same) f.2;
+            }
+        from (passes rows e) = absurd (cc e)
+
     module _ (number place : ℕ) where
-      -- the check finds a fault exactly if it is the first faulty row's
-      pub check_faulty : ((check_terms bytes count).answer ≡ Faulty number place) ↔ FirstFaultyRow bytes count number place
+      -- the same by the fault's number
+      pub check_faulty : Names number place (check_terms bytes count).answer ↔ FirstFaultyRow bytes count number place
       check_faulty = (
-        λ e. from ((means (Faulty number place)).0 e),
+        λ s. subst (λ m. FirstFaultyRow bytes count m place) s.1 ((check_fault s.0 place).0 s.2),
         λ f.
-            (means (Faulty number place)).1
-            (stops place (omega arith) f.within (table_rows place f.before) (number, refl, f.fault)),
+            let named = fault_numbered f.fault in
+            (named.0, named.1, (check_fault named.0 place).1 (subst (λ m. FirstFaultyRow bytes count m place) (sym named.1) f)),
       )
-        where
-          from : Answers FaultlessRow FaultAt NoFault 0 count (Faulty number place) → FirstFaultyRow bytes count number place
-          from (stops p low h before f) =
-              let same : p ≡ place = cc f.1 in
-              record {
-                within = omega arith;
-                before = rows_table place (omega arith) (subst (Between FaultlessRow 0) same before);
-                fault = subst₂ (RowFault bytes) same (cc f.1) f.2;
-              }
-          from (passes rows e) = clash cc
 
       -- and then the sizes are those of the trees before it
-      pub faulty_sizes : (check_terms bytes count).answer ≡ Faulty number place → TreeSizes bytes place (check_terms bytes count).sizes
-      faulty_sizes e = subst (λ a. TreeSizes bytes (sized a) (check_terms bytes count).sizes) e outcome.1
+      pub faulty_sizes : Names number place (check_terms bytes count).answer → TreeSizes bytes place (check_terms bytes count).sizes
+      faulty_sizes s = subst (λ a. TreeSizes bytes (sized a) (check_terms bytes count).sizes) s.2 outcome.1

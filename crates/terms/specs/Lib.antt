@@ -1,6 +1,7 @@
 pub mod Term
 pub mod Substitution
 pub mod FreeIndices
+pub mod Operations
 pub mod Reduction
 pub mod NormalForms
 pub mod Tag
@@ -11,6 +12,7 @@ pub mod Lists
 pub mod Buffers
 pub mod Table
 pub mod Search
+pub mod Faults
 pub mod Sizes
 pub mod Repetition
 pub mod RowIndex

@@ -39,6 +39,6 @@ scrutinised Zero = 0
 scrutinised Succ = 0
 scrutinised Ind = 2
 
--- a row that is remembered, by a 1, spells a normal term
-pub record Known (bytes known : List ℕ) : Type 0 where
-  pub fact : (n : ℕ) → get_or known n 0 ≡ 1 → Normal (term bytes n)
+-- a row that is remembered spells a normal term
+pub record Known (bytes : List ℕ) (known : List Bool) : Type 0 where
+  pub fact : (n : ℕ) → get_or known n false ≡ true → Normal (term bytes n)

@@ -3,6 +3,7 @@
 -- are.
 use Rattle.std.specs.Prelude.{◌≡◌, true, false, List, ℕ, zero, suc, ◌+◌, ◌*◌, ◌/◌, ◌%◌, ◌<◌, eqb, length, get_or}
 use Rattle.terms.specs.Rows.{row_of}
+use Rattle.terms.specs.declared.row_index.RowIndex.{RowIndex}
 use Rattle.terms.specs.declared.rows.Row.{Row}
 
 -- the bucket of five words, one of 2,048
@@ -16,8 +17,8 @@ latest bytes b zero = 0
 latest bytes b (suc n) = elim (eqb (bucket_of (row_of bytes n)) b) [ true ↦ suc n | false ↦ latest bytes b n ]
 
 -- the first n rows are indexed: a bucket's head is its last row, and a row's link is the row before it in its bucket
-pub record Indexed (bytes : List ℕ) (n : ℕ) (heads links : List ℕ) : Type 0 where
-  pub buckets : length heads ≡ 2048
-  pub room : length links ≡ 3072
-  pub head : (b : ℕ) → b < 2048 → get_or heads b 0 ≡ latest bytes b n
-  pub link : (i : ℕ) → i < n → get_or links i 0 ≡ latest bytes (bucket_of (row_of bytes i)) i
+pub record Indexed (bytes : List ℕ) (n : ℕ) (index : RowIndex) : Type 0 where
+  pub buckets : length index.heads ≡ 2048
+  pub room : length index.links ≡ 3072
+  pub head : (b : ℕ) → b < 2048 → get_or index.heads b 0 ≡ latest bytes b n
+  pub link : (i : ℕ) → i < n → get_or index.links i 0 ≡ latest bytes (bucket_of (row_of bytes i)) i

@@ -1,5 +1,8 @@
 -- The thirteen tags of a term row, and one view of a term by its tag: document 01, "The sheet".
-use Rattle.std.specs.Prelude.{ℕ, zero, suc, List, [], ◌∷◌, get_or}
+use Rattle.std.specs.Prelude.{◌≡◌, ◌⊎◌, ◌≤◌, ◌<◌, ℕ, zero, suc, List, [], ◌∷◌, get_or, Result, MatchResult}
+use Rattle.terms.specs.declared.tags.Tag as source
+use Rattle.terms.specs.declared.tags.Tag.TheVariants as source_tag
+use Rattle.terms.specs.declared.tags.NoTag.{NoTag}
 use Rattle.terms.specs.Term.{Term, var, univ, pi, lam, app, sigma, pair, first, second, nat, zer, succ, ind}
 
 pub data Tag : Type 0 where
@@ -12,6 +15,26 @@ tags = none ∷ Var ∷ Univ ∷ Pi ∷ Lam ∷ App ∷ Sigma ∷ Pair ∷ First
 unfoldable pub tag_of : ℕ → Tag
 unfolding tags
 tag_of n = get_or tags n none
+
+-- the tag that a value of the source means
+abbrev pub tag_meant : source.Tag → Tag
+tag_meant source_tag.Var = Var
+tag_meant source_tag.Univ = Univ
+tag_meant source_tag.Pi = Pi
+tag_meant source_tag.Lam = Lam
+tag_meant source_tag.App = App
+tag_meant source_tag.Sigma = Sigma
+tag_meant source_tag.Pair = Pair
+tag_meant source_tag.First = First
+tag_meant source_tag.Second = Second
+tag_meant source_tag.Nat = Nat
+tag_meant source_tag.Zero = Zero
+tag_meant source_tag.Succ = Succ
+tag_meant source_tag.Ind = Ind
+
+-- what a word is taken for: 1 to 13 for the tag that it has, any other for none
+abbrev pub Decodes : ℕ → Result source.Tag NoTag → Type 0
+Decodes w r = MatchResult r (λ τ. (1 ≤ w) × (w ≤ 13) × (tag_meant τ ≡ tag_of w)) (λ e. (w ≡ 0) ⊎ (13 < w))
 
 -- how many of a row's operands are children: they stand first
 unfoldable pub arity : Tag → ℕ

@@ -1,23 +1,21 @@
-// Tests that one row spells the shift, or the substitution, of another. Both terms are walked in step, and the
-// walk ends at the first difference: at most 65,535 nodes are visited, at most as deep as there are rows. Some of
-// what held is remembered on the way, since rows share subterms.
+// The shift and the substitutions that rules make, and the tests that a row spells what they make of another.
 ghost use Rattle.std.specs.Prelude.{◌≡◌, [], ◌∷◌, ◌+◌, ◌*◌, ◌≤◌, ◌<◌};
 ghost use Rattle.terms.specs.Decides.{Decides};
 ghost use Rattle.terms.specs.Rows.{term};
-ghost use Rattle.terms.specs.Substitution.{shift, image_under, substitute};
+ghost use Rattle.terms.specs.Substitution.{shift, substitute};
 ghost use Rattle.terms.specs.Table.{RowsInTable};
-ghost use Rattle.terms.specs.Memo.{MemoHolds};
+ghost use Rattle.terms.specs.Operations.{shift_goes, substitute_goes};
 ghost use Rattle.terms.specs.Images.{lowered_of, image_of, image_rows, image_term, image_number, subst_rows, substitution};
 ghost use Rattle.terms.specs.Term.{var, first, succ, ind};
 
-use crate::memo::{is_remembered, remember};
-use crate::nodes::{Node, child, is_node, same_head};
-use crate::rows::word;
-use crate::tags::{arity, binders};
+use crate::memo::Memo;
+use crate::nodes::{Node, child, is_node};
+use crate::walks::{Operation, walk};
 
 // A substitution that a rule makes: for index 0 a row, zero, or first of a row, the others being lowered by 1; or succ
 // of the outer variable, the others being raised by 1; or, for y and x together, ind of four rows and its second, the
-// others being lowered by 2. What it brings in need have no row.
+// others being lowered by 2. What it brings in need have no row. The four rows of ind are named one by one, as `Node`
+// and the specs' `ind` have them.
 #[derive(Clone, Copy)]
 pub enum Subst {
     Row(usize),
@@ -48,75 +46,34 @@ pub enum Image {
     },
 }
 
+// The shift that raises free indices by `by`.
+#[derive(Clone, Copy)]
+struct Shift {
+    by: usize,
+    ghost small: { by ≤ 65536 },
+}
+
+impl Operation for Shift {
+    ghost named = { λ op. [] };
+
+    ghost image = { λ op bytes k t. shift k op.by t };
+
+    // An index below `k` is bound and stays.
+    fn is_image(self, rows: &[u8], k: usize, i: usize, u: usize) -> bool {
+        let raised = if i < k { i } else { i + self.by };
+        is_node(rows, u, Node::Var(raised))
+    }
+
+    ghost goes = { λ op bytes. shift_goes op.by };
+}
+
 // Does row `u` spell row `t` with its free indices under `k` binders raised by `d`?
 pub fn is_shifted(rows: &[u8], k: usize, d: usize, t: usize, u: usize) -> bool
     requires { RowsInTable rows.now (t ∷ u ∷ []) × (k + 2 * t ≤ 65536) × (d ≤ 65536) }
     ensures { Decides result (term rows.now u ≡ shift k d (term rows.now t)) }
 {
-    let mut memo = [0usize; 64];
-    walk_shifted(rows, k, d, t, u, &mut memo)
-}
-
-// The same, answered from the memory where it can be.
-#[cycle(shifted_here_walk_shifted)]
-fn walk_shifted(rows: &[u8], k: usize, d: usize, t: usize, u: usize, memo: &mut [usize; 64]) -> bool
-    requires { RowsInTable rows.now (t ∷ u ∷ []) × (k + 2 * t ≤ 65536) × (d ≤ 65536) × MemoHolds rows.now (λ n s. shift n d s) memo.old }
-    ensures answer { Decides result (term rows.now u ≡ shift k d (term rows.now t)) }
-    ensures memory { MemoHolds rows.now (λ n s. shift n d s) memo.new }
-{
-    if is_remembered(memo, k, t, u) {
-        return true;
-    }
-    if shifted_here(rows, k, d, t, u, memo) {
-        remember(memo, k, t, u);
-        return true;
-    }
-    false
-}
-
-// The same, by the heads and the children.
-#[cycle(shifted_here_walk_shifted)]
-fn shifted_here(rows: &[u8], k: usize, d: usize, t: usize, u: usize, memo: &mut [usize; 64]) -> bool
-    requires { RowsInTable rows.now (t ∷ u ∷ []) × (k + 2 * t ≤ 65536) × (d ≤ 65536) × MemoHolds rows.now (λ n s. shift n d s) memo.old }
-    ensures answer { Decides result (term rows.now u ≡ shift k d (term rows.now t)) }
-    ensures memory { MemoHolds rows.now (λ n s. shift n d s) memo.new }
-{
-    let tag = word(rows, t, 0);
-    if tag == 1 {
-        return is_raised_variable(rows, k, d, word(rows, t, 1), u);
-    }
-    if same_head(rows, t, u) {
-        let count = arity(tag);
-        let mut j = 1;
-        while j <= count {
-            if walk_shifted(
-                rows,
-                k + binders(tag, j),
-                d,
-                word(rows, t, j),
-                word(rows, u, j),
-                memo,
-            ) {
-                j += 1;
-            } else {
-                return false;
-            }
-        }
-        true
-    } else {
-        false
-    }
-}
-
-// Does row `u` spell the variable `i` raised by `d` where it is free under `k` binders?
-fn is_raised_variable(rows: &[u8], k: usize, d: usize, i: usize, u: usize) -> bool
-    requires { RowsInTable rows.now (u ∷ []) × (i < 65536) × (d ≤ 65536) }
-    ensures { Decides result (term rows.now u ≡ shift k d (var i)) }
-{
-    if i < k {
-        return is_node(rows, u, Node::Var(i));
-    }
-    is_node(rows, u, Node::Var(i + d))
+    let mut memo = Memo::new();
+    walk(rows, k, Shift { by: d }, t, u, &mut memo)
 }
 
 // What is put for the index `i`.
@@ -220,15 +177,20 @@ fn is_raised_image(rows: &[u8], k: usize, image: Image, u: usize) -> bool
     }
 }
 
-// Does row `u` spell what is put for the index `i` under `k` binders?
-fn is_image(rows: &[u8], k: usize, by: Subst, i: usize, u: usize) -> bool
-    requires { RowsInTable rows.now (u ∷ subst_rows by) × (i < 65536) × (k ≤ 65536) }
-    ensures { Decides result (term rows.now u ≡ image_under k (substitution rows.now by) i) }
-{
-    if i < k {
-        return is_node(rows, u, Node::Var(i));
+impl Operation for Subst {
+    ghost named = { subst_rows };
+
+    ghost image = { λ by bytes k t. substitute k (substitution bytes by) t };
+
+    // An index below `k` is bound and stays, for the others a raised image is put.
+    fn is_image(self, rows: &[u8], k: usize, i: usize, u: usize) -> bool {
+        if i < k {
+            return is_node(rows, u, Node::Var(i));
+        }
+        is_raised_image(rows, k, image_of(self, i - k), u)
     }
-    is_raised_image(rows, k, image_of(by, i - k), u)
+
+    ghost goes = { λ by bytes. substitute_goes (substitution bytes by) };
 }
 
 // Does row `u` spell row `t` with what is put for its free indices under `k` binders?
@@ -236,71 +198,6 @@ pub fn is_substituted(rows: &[u8], k: usize, by: Subst, t: usize, u: usize) -> b
     requires { RowsInTable rows.now (t ∷ u ∷ subst_rows by) × (k + 2 * t ≤ 65536) }
     ensures { Decides result (term rows.now u ≡ substitute k (substitution rows.now by) (term rows.now t)) }
 {
-    let mut memo = [0usize; 64];
-    walk_substituted(rows, k, by, t, u, &mut memo)
-}
-
-// The same, answered from the memory where it can be.
-#[cycle(substituted_here_walk_substituted)]
-fn walk_substituted(
-    rows: &[u8],
-    k: usize,
-    by: Subst,
-    t: usize,
-    u: usize,
-    memo: &mut [usize; 64],
-) -> bool
-    requires { RowsInTable rows.now (t ∷ u ∷ subst_rows by) × (k + 2 * t ≤ 65536) × MemoHolds rows.now (λ n s. substitute n (substitution rows.now by) s) memo.old }
-    ensures answer { Decides result (term rows.now u ≡ substitute k (substitution rows.now by) (term rows.now t)) }
-    ensures memory { MemoHolds rows.now (λ n s. substitute n (substitution rows.now by) s) memo.new }
-{
-    if is_remembered(memo, k, t, u) {
-        return true;
-    }
-    if substituted_here(rows, k, by, t, u, memo) {
-        remember(memo, k, t, u);
-        return true;
-    }
-    false
-}
-
-// The same, by the heads and the children.
-#[cycle(substituted_here_walk_substituted)]
-fn substituted_here(
-    rows: &[u8],
-    k: usize,
-    by: Subst,
-    t: usize,
-    u: usize,
-    memo: &mut [usize; 64],
-) -> bool
-    requires { RowsInTable rows.now (t ∷ u ∷ subst_rows by) × (k + 2 * t ≤ 65536) × MemoHolds rows.now (λ n s. substitute n (substitution rows.now by) s) memo.old }
-    ensures answer { Decides result (term rows.now u ≡ substitute k (substitution rows.now by) (term rows.now t)) }
-    ensures memory { MemoHolds rows.now (λ n s. substitute n (substitution rows.now by) s) memo.new }
-{
-    let tag = word(rows, t, 0);
-    if tag == 1 {
-        return is_image(rows, k, by, word(rows, t, 1), u);
-    }
-    if same_head(rows, t, u) {
-        let count = arity(tag);
-        let mut j = 1;
-        while j <= count {
-            if walk_substituted(
-                rows,
-                k + binders(tag, j),
-                by,
-                word(rows, t, j),
-                word(rows, u, j),
-                memo,
-            ) {
-                j += 1;
-            } else {
-                return false;
-            }
-        }
-        true
-    } else {
-        false
-    }
+    let mut memo = Memo::new();
+    walk(rows, k, by, t, u, &mut memo)
 }

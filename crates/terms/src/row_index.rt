@@ -1,19 +1,13 @@
-// An index of the rows checked so far: rows are chained by bucket, the last one first. A head or a link is one more
-// than a row's number, and 0 where the chain ends.
-ghost use Rattle.std.specs.Prelude.{◌≡◌, ◌+◌, ◌*◌, ◌<◌, ◌≤◌, length, get_or, set};
+// An index of the rows checked so far.
+ghost use Rattle.std.specs.Prelude.{◌≡◌, List, ℕ, ◌+◌, ◌*◌, ◌<◌, ◌≤◌, length, get_or, set};
 ghost use Rattle.terms.specs.Decides.{Decides};
 ghost use Rattle.terms.specs.Repetition.{OlderRowHolds};
 ghost use Rattle.terms.specs.RowIndex.{bucket_of, Indexed};
 
 use crate::rows::{Row, holds};
 
-fn wide(number: u16) -> usize
-    ensures { result ≡ number }
-{
-    number as usize
-}
-
 // The bucket of five words.
+#[tactic(auto, unfolding(crate::specs::RowIndex::bucket_of))]
 pub fn bucket_of(row: Row) -> usize
     ensures { result ≡ bucket_of row }
 {
@@ -25,35 +19,50 @@ pub fn bucket_of(row: Row) -> usize
     mixed / 1024 % 2048
 }
 
-// Does one of the first `n` rows hold these five words, whatever they are? Rows that do lie in the words' bucket.
-pub fn repeated(
-    rows: &[u8],
-    n: usize,
-    row: Row,
-    bucket: usize,
-    heads: &[u16],
-    links: &[u16],
-) -> bool
-    requires { (10 * n ≤ length rows.now) × (n ≤ 3072) × (bucket ≡ bucket_of row) × Indexed rows.now n heads.now links.now }
-    ensures { Decides result (OlderRowHolds rows.now row n) }
-{
-    let mut at = wide(heads[bucket]);
-    while 0 < at {
-        let i = at - 1;
-        if holds(rows, i, row) {
-            return true;
-        }
-        at = wide(links[i]);
-    }
-    false
+// Rows are chained by bucket, the last one first. A head or a link is one more than a row's number, and 0 where the
+// chain ends: an `Option` would take twice the memory, which is cleared for each table.
+#[derive(Drop)]
+pub struct RowIndex {
+    heads: [u16; 2048],
+    links: [u16; 3072],
 }
 
-// Adds row `n` to the chain of its bucket.
-pub fn add_row(n: usize, bucket: usize, heads: &mut [u16], links: &mut [u16])
-    requires { (n < 3072) × (bucket < 2048) × (length heads.old ≡ 2048) × (length links.old ≡ 3072) }
-    ensures heads { heads.new ≡ set heads.old bucket (n + 1) }
-    ensures links { links.new ≡ set links.old n (get_or heads.old bucket 0) }
-{
-    links[n] = heads[bucket];
-    heads[bucket] = (n + 1) as u16;
+impl RowIndex {
+    // No row is indexed.
+    pub fn new() -> RowIndex
+        ensures { (bytes : List ℕ) → Indexed bytes 0 result }
+    {
+        RowIndex {
+            heads: [0; 2048],
+            links: [0; 3072],
+        }
+    }
+
+    // Does one of the first `n` rows hold these five words, whatever they are? Rows that do lie in the words' bucket.
+    // The chain goes by links and not by an index: a `while`.
+    #[tactic(auto, using(crate::proofs::IndexLaws::bucket_below, crate::proofs::IndexLaws::search_found, crate::proofs::IndexLaws::search_done))]
+    pub fn repeated(&self, rows: &[u8], n: usize, row: Row, bucket: usize) -> bool
+        requires { (10 * n ≤ length rows.now) × (n ≤ 3072) × (bucket ≡ bucket_of row) × Indexed rows.now n self.now }
+        ensures { Decides result (OlderRowHolds rows.now row n) }
+    {
+        let mut at = usize::from(self.heads[bucket]);
+        while 0 < at {
+            let i = at - 1;
+            if holds(rows, i, row) {
+                return true;
+            }
+            at = usize::from(self.links[i]);
+        }
+        false
+    }
+
+    // Adds row `n` to the chain of its bucket.
+    pub fn add(&mut self, n: usize, bucket: usize)
+        requires { (n < 3072) × (bucket < 2048) }
+        ensures heads { self.new.heads ≡ set self.old.heads bucket (n + 1) }
+        ensures links { self.new.links ≡ set self.old.links n (get_or self.old.heads bucket 0) }
+    {
+        self.links[n] = self.heads[bucket];
+        self.heads[bucket] = (n + 1) as u16;
+    }
 }

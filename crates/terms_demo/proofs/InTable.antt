@@ -1,4 +1,4 @@
--- A check that answers NoFault gives a well-formed table, and rows below a small table's number of rows are rows of
+-- A check that answers Ok gives a well-formed table, and rows below a small table's number of rows are rows of
 -- that table.
 -- Assumes nothing.
 use mathlib.Core.Path.{◌≡◌, sym, ◌∙◌}
@@ -10,9 +10,7 @@ use lib.ListN.{length}
 use borrow.Author.Tests.{leb-true, ltb-true}
 use Rattle.terms.specs.Table.{TermTable, RowsInTable}
 use Rattle.terms.specs.Lists.{AllBelow}
-use Rattle.terms.specs.Sizes.{check_terms}
-use Rattle.terms.specs.declared.sizes.TermsAnswer.{TermsAnswer}
-use Rattle.terms.specs.declared.sizes.TermsAnswer.TheVariants.{NoFault}
+use Rattle.terms.specs.Sizes.{TermsAnswer, faultless, check_terms}
 use Rattle.terms.proofs.Tables.{and_left, and_right}
 use Rattle.terms.proofs.TableLaws.{check_faultless}
 
@@ -27,5 +25,5 @@ below count (n ∷ ns) h = (ltb-true n count (and_left (ltb n count) (all_below 
 pub in_table : {bytes : List ℕ} {count : ℕ} (ns : List ℕ) → TermTable bytes count → leb count 3072 ≡ true → all_below count ns ≡ true → RowsInTable bytes ns
 in_table {bytes} {count} ns table few rows = record { count = count; few = leb-true count 3072 few; table = table; below = below count ns rows }
 
-pub faultless_rows : (bytes : List ℕ) (count : ℕ) (r : TermsAnswer) → r ≡ (check_terms bytes count).answer → r ≡ NoFault → 10 * count ≤ length bytes → TermTable bytes count
+pub faultless_rows : (bytes : List ℕ) (count : ℕ) (r : TermsAnswer) → r ≡ (check_terms bytes count).answer → r ≡ faultless → 10 * count ≤ length bytes → TermTable bytes count
 faultless_rows bytes count r e s whole = (check_faultless bytes count whole).0 (sym e ∙ s)

@@ -7,45 +7,36 @@ mod tests;
 mod writing;
 
 ghost use Rattle.std.specs.Prelude.{◌<◌};
-ghost use Rattle.terms.specs.Table.{TermTable};
 
+use crate::tables::SoundTable;
 use std::io;
-use terms::sizes::TermsAnswer;
 
-fn write_head_tests(rt: &impl Print, rows: &[u8]) -> io::Result<()>
-    requires { TermTable rows.now 43 }
-{
-    tests::nodes(rt, rows)?;
-    tests::other_nodes(rt, rows)?;
-    tests::children(rt, rows)?;
-    tests::numbers(rt, rows)?;
-    tests::equal_terms(rt, rows)?;
-    tests::normal_terms(rt, rows)
+fn write_head_tests(rt: &impl Print, table: SoundTable<43>) -> io::Result<()> {
+    tests::nodes(rt, table)?;
+    tests::other_nodes(rt, table)?;
+    tests::children(rt, table)?;
+    tests::numbers(rt, table)?;
+    tests::equal_terms(rt, table)?;
+    tests::normal_terms(rt, table)
 }
 
-fn write_shift_tests(rt: &impl Print, rows: &[u8]) -> io::Result<()>
-    requires { TermTable rows.now 43 }
-{
-    tests::shifts(rt, rows)?;
-    tests::deep_shifts(rt, rows)
+fn write_shift_tests(rt: &impl Print, table: SoundTable<43>) -> io::Result<()> {
+    tests::shifts(rt, table)?;
+    tests::deep_shifts(rt, table)
 }
 
-fn write_substituted_tests(rt: &impl Print, rows: &[u8]) -> io::Result<()>
-    requires { TermTable rows.now 43 }
-{
-    tests::substituted_rows(rt, rows)?;
-    tests::substituted_rows_under(rt, rows)?;
-    tests::substituted_described(rt, rows)?;
-    tests::substituted_outer_succ(rt, rows)?;
-    tests::substituted_both(rt, rows)
+fn write_substituted_tests(rt: &impl Print, table: SoundTable<43>) -> io::Result<()> {
+    tests::substituted_rows(rt, table)?;
+    tests::substituted_rows_under(rt, table)?;
+    tests::substituted_described(rt, table)?;
+    tests::substituted_outer_succ(rt, table)?;
+    tests::substituted_both(rt, table)
 }
 
-fn write_tests(rt: &impl Print, rows: &[u8]) -> io::Result<()>
-    requires { TermTable rows.now 43 }
-{
-    write_head_tests(rt, rows)?;
-    write_shift_tests(rt, rows)?;
-    write_substituted_tests(rt, rows)
+fn write_tests(rt: &impl Print, table: SoundTable<43>) -> io::Result<()> {
+    write_head_tests(rt, table)?;
+    write_shift_tests(rt, table)?;
+    write_substituted_tests(rt, table)
 }
 
 fn whole_table(rt: &impl Print) -> io::Result<()> {
@@ -54,11 +45,8 @@ fn whole_table(rt: &impl Print) -> io::Result<()> {
     tables::fill(&table, &mut rows);
     let mut work = [0u32; 45];
     match writing::checked(rt, &rows, 43, &mut work)? {
-        TermsAnswer::NoFault => write_tests(rt, &rows),
-        TermsAnswer::Faulty {
-            number: _,
-            place: _,
-        } => Ok(()),
+        Ok(()) => write_tests(rt, SoundTable { rows: &rows }),
+        Err(_) => Ok(()),
     }
 }
 
@@ -68,11 +56,8 @@ fn bare_table(rt: &impl Print) -> io::Result<()> {
     tables::fill(&table, &mut rows);
     let mut work = [0u32; 6];
     match writing::checked(rt, &rows, 6, &mut work)? {
-        TermsAnswer::NoFault => tests::substituted_without_rows(rt, &rows),
-        TermsAnswer::Faulty {
-            number: _,
-            place: _,
-        } => Ok(()),
+        Ok(()) => tests::substituted_without_rows(rt, SoundTable { rows: &rows }),
+        Err(_) => Ok(()),
     }
 }
 
@@ -85,7 +70,7 @@ fn damaged_table(rt: &impl Print, at: usize, value: u8) -> io::Result<()>
     tables::fill(&table, &mut rows);
     tables::change(&mut rows, at, value);
     let mut work = [0u32; 45];
-    writing::checked(rt, &rows, 43, &mut work)?;
+    let _ = writing::checked(rt, &rows, 43, &mut work)?;
     Ok(())
 }
 
@@ -97,7 +82,7 @@ fn doubling_table(rt: &impl Print, count: usize) -> io::Result<()>
     let mut rows = [0u8; 170];
     tables::fill(&table, &mut rows);
     let mut work = [0u32; 18];
-    writing::checked(rt, &rows, count, &mut work)?;
+    let _ = writing::checked(rt, &rows, count, &mut work)?;
     Ok(())
 }
 
@@ -109,7 +94,7 @@ fn next_size(rt: &impl Print) -> io::Result<()> {
     tables::change(&mut rows, 160, 12);
     tables::change(&mut rows, 164, 0);
     let mut work = [0u32; 18];
-    writing::checked(rt, &rows, 17, &mut work)?;
+    let _ = writing::checked(rt, &rows, 17, &mut work)?;
     Ok(())
 }
 

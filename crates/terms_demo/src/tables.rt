@@ -1,5 +1,6 @@
 // The term tables of the tests. A row is five words, the tag and four operands, each low byte first.
 ghost use Rattle.std.specs.Prelude.{◌≡◌, ◌*◌, ◌<◌, length, set};
+ghost use Rattle.terms.specs.Table.{TermTable};
 ghost use Rattle.terms_demo.specs.Tables.{Filled};
 
 // 43 rows; `v0` stands for the variable 0, and so on, and a bare number for the row of that number.
@@ -129,15 +130,20 @@ pub const DOUBLING: [[u8; 10]; 17] = [
     [5, 0, 15, 0, 15, 0, 0, 0, 0, 0],
 ];
 
+// The bytes of a table of `N` rows, which its check found well-formed.
+#[derive(Clone, Copy)]
+pub struct SoundTable<'a, const N: usize> {
+    pub rows: &'a [u8],
+    ghost sound: { TermTable rows.now N },
+}
+
 // The bytes of the rows, one row behind the other.
 pub fn fill(rows: &[[u8; 10]], out: &mut [u8])
     requires { length out.old ≡ 10 * length rows.now }
     ensures { Filled rows.now out.new (length out.old) }
 {
-    let mut i = 0;
-    while i < out.len() {
+    for i in 0..out.len() {
         out[i] = rows[i / 10][i % 10];
-        i += 1;
     }
 }
 

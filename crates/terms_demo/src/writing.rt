@@ -4,31 +4,22 @@ ghost use Rattle.terms.specs.Sizes.{check_terms};
 ghost use Rattle.terms.specs.Buffers.{over};
 
 use std::io;
-use terms::sizes::{TermsAnswer, check_terms};
+use terms::sizes::{TermsError, check_terms};
 
 // `NAME N: yes` or `NAME N: no` for each answer, N from 1.
 pub fn write_answers(rt: &impl Print, name: &[u8], answers: &[bool]) -> io::Result<()> {
-    let mut i = 0;
-    while i < answers.len() {
-        let yes = answers[i];
-        i += 1;
-        write_numbered(rt, name, i)?;
-        if yes {
-            rt.write_all(b"yes\n")?;
-        } else {
-            rt.write_all(b"no\n")?;
-        }
+    for (i, yes) in answers.iter().enumerate() {
+        let answer = if *yes { "yes" } else { "no" };
+        write_numbered(rt, name, i + 1)?;
+        println!(rt; "{answer}")?;
     }
     Ok(())
 }
 
 // `NAME N: VALUE` for each number, N from 1.
 pub fn write_numbers(rt: &impl Print, name: &[u8], numbers: &[usize]) -> io::Result<()> {
-    let mut i = 0;
-    while i < numbers.len() {
-        let value = numbers[i];
-        i += 1;
-        write_numbered(rt, name, i)?;
+    for (i, value) in numbers.iter().enumerate() {
+        write_numbered(rt, name, i + 1)?;
         println!(rt; "{value}")?;
     }
     Ok(())
@@ -40,25 +31,21 @@ fn write_numbered(rt: &impl Print, name: &[u8], n: usize) -> io::Result<()> {
 }
 
 // `sound`, or a fault's number and place.
-fn write_answer(rt: &impl Print, answer: TermsAnswer) -> io::Result<()> {
+fn write_answer(rt: &impl Print, answer: Result<(), TermsError>) -> io::Result<()> {
     match answer {
-        TermsAnswer::NoFault => rt.write_all(b"sound")?,
-        TermsAnswer::Faulty { number, place } => print!(rt; "{number} {place}")?,
+        Ok(()) => rt.write_all(b"sound")?,
+        Err(TermsError { fault, place }) => {
+            let number = fault.number();
+            print!(rt; "{number} {place}")?
+        }
     }
     rt.write_all(b"\nsizes")
-}
-
-fn wide(size: u32) -> u64
-    ensures { result ≡ size }
-{
-    size as u64
 }
 
 // Every word of the work buffer.
 fn write_sizes(rt: &impl Print, work: &[u32]) -> io::Result<()> {
     for word in work {
-        let size = wide(*word);
-        print!(rt; " {size}")?;
+        print!(rt; " {word}")?;
     }
     rt.write_all(b"\n")
 }
@@ -69,7 +56,7 @@ pub fn checked(
     rows: &[u8],
     count: usize,
     work: &mut [u32],
-) -> io::Result<TermsAnswer>
+) -> io::Result<Result<(), TermsError>>
     requires { (10 * count ≤ length rows.now) × (count ≤ 3072) × (count ≤ length work.old) }
     ensures answer { IfOk result (λ answer. answer ≡ (check_terms rows.now count).answer) }
     ensures sizes { work.new ≡ over (check_terms rows.now count).sizes work.old }

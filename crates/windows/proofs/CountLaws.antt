@@ -2,28 +2,28 @@
 -- number is the count.
 -- Assumes nothing.
 use mathlib.Core.Path.{◌≡◌, refl, sym, ◌∙◌, ap, subst}
-use mathlib.Core.Logic.{◌↔◌}
-use mathlib.Core.Bool.{Bool, true, false, cond, true≢false}
-use Prim.Native.Nat.{ℕ, zero, suc, ◌+◌, ◌-◌, ◌≤◌}
+use mathlib.Core.Logic.{◌↔◌, ⊎_elim}
+use mathlib.Core.Bool.{Bool, true, false, cond}
+use Rattle.std.specs.Prelude.{Result, Ok, Err}
+use Prim.Native.Nat.{ℕ, zero, suc, ◌+◌, ◌-◌, ◌≤◌, ◌<◌}
 use native.Mathlib.Omega.{arith}
-use lib.Dec.{leb}
-use borrow.Author.Tests.{leb-true, leb-false}
+use Rattle.std.proofs.lemmas.Bool.{cases_lt, iff_false, false_from_ne_true}
 use Rattle.windows.specs.declared.dates.Date.{Date}
-use Rattle.windows.specs.declared.dates.DayNumber.{DayNumber}
-use Rattle.windows.specs.declared.dates.DayNumber.TheVariants.{Day, Refused}
-use Rattle.windows.specs.Calendar.{leap, month_lengths, sum, days_before_month, year_length, days_of_years}
+use Rattle.windows.specs.declared.errors.WindowError.{WindowError}
+use Rattle.windows.specs.declared.errors.WindowError.TheVariants.{NoSuchDate}
+use Rattle.windows.specs.Calendar.{leap, month_lengths, days_before_month, year_length, days_of_years}
 use Rattle.windows.specs.Dates.{date_of, Exists, exists, day_number, next_day, date_after, day_number_of}
 use Rattle.windows.specs.Dates.{DayNumberMeans, counted, no_date}
 use Rattle.windows.proofs.CalendarLaws.{month_some}
-use Rattle.windows.proofs.DateLaws.{Proper, proper, exists_is, refuted, next_follows}
+use Rattle.windows.proofs.DateLaws.{Proper, proper, exists_is, next_follows}
 use Rattle.windows.proofs.OrderLaws.{one_number, years_rise, year_ends}
 
 pub first_day : day_number (date_of 1970 1 1) ≡ 0
-unfolding day_number date_of days_of_years days_before_month month_lengths sum
+unfolding day_number date_of days_of_years days_before_month month_lengths
 first_day = refl
 
 pub last_day : day_number (date_of 2199 12 31) ≡ 84005
-unfolding day_number date_of days_of_years year_length days_before_month month_lengths leap sum
+unfolding day_number date_of days_of_years year_length days_before_month month_lengths leap
 last_day = refl
 
 -- the next day's number is one more, over the ends of months and years
@@ -32,11 +32,11 @@ next_day_lem d x = (next_follows d (proper x)).1
 
 -- "28 February and 1 March 2100 are neighbours; in 2000 they are not": there is a day between
 pub neighbours_2100 : day_number (date_of 2100 3 1) ≡ day_number (date_of 2100 2 28) + 1
-unfolding day_number date_of days_of_years year_length days_before_month month_lengths leap sum
+unfolding day_number date_of days_of_years year_length days_before_month month_lengths leap
 neighbours_2100 = refl
 
 pub no_neighbours_2000 : day_number (date_of 2000 3 1) ≡ day_number (date_of 2000 2 28) + 2
-unfolding day_number date_of days_of_years year_length days_before_month month_lengths leap sum
+unfolding day_number date_of days_of_years year_length days_before_month month_lengths leap
 no_neighbours_2000 = refl
 
 -- counting days gives dates of the calendar, and their numbers are the count
@@ -69,7 +69,7 @@ count_is d x n = (
 )
 
 all_years : days_of_years 230 ≡ 84006
-unfolding days_of_years year_length month_lengths leap sum
+unfolding days_of_years year_length month_lengths leap
 all_years = refl
 
 low : (d : Date) → Exists d → day_number d ≤ 84005
@@ -80,17 +80,15 @@ early : (d : Date) → Proper d → day_number d ≤ 84005 → Exists d
 unfolding day_number
 early d p h = record {
   since = p.since;
-  until = pick (leb d.year 2199) refl;
+  until = ⊎_elim late (λ h. h) (cases_lt 2199 d.year);
   month_from = p.month_from;
   month_to = p.month_to;
   day_from = p.day_from;
   day_to = p.day_to;
 }
   where
-    pick : (t : Bool) → leb d.year 2199 ≡ t → d.year ≤ 2199
-    pick true e = leb-true d.year 2199 e
-    pick false e =
-        absurd (omega (arith, all_years, years_rise 230 (d.year - 1970) (omega (arith, leb-false d.year 2199 e))))
+    late : 2199 < d.year → d.year ≤ 2199
+    late after = absurd (omega (arith, all_years, years_rise 230 (d.year - 1970) (omega (arith, after))))
 
 -- the dates that exist are those that counting comes to in at most 84,005 days
 pub existing_are : (d : Date) → Exists d ↔ ((n : ℕ) × (n ≤ 84005) × (date_after n ≡ d))
@@ -106,14 +104,14 @@ module _ (d : Date) where
   unfolding day_number_of
   means = pick (exists d) refl
     where
-      pick : (t : Bool) → exists d ≡ t → DayNumberMeans d (cond t (Day (day_number d)) (Refused 15 0))
+      pick : (t : Bool) → exists d ≡ t → DayNumberMeans d (cond t (Ok (day_number d)) (Err NoSuchDate))
       pick true e = let x = (exists_is d).0 e in counted x ((count_is d x (day_number d)).0 refl)
-      pick false e = no_date (λ x. true≢false (sym ((exists_is d).1 x) ∙ e))
+      pick false e = no_date (iff_false (exists_is d) e)
 
-  back : {a : DayNumber} → DayNumberMeans d a → day_number_of d ≡ a
+  back : {a : Result ℕ WindowError} → DayNumberMeans d a → day_number_of d ≡ a
   unfolding day_number_of
   back (counted {n} x e) = rw ((exists_is d).1 x, (count_is d x n).1 e)
-  back (no_date none) = rw (refuted (exists d) (exists_is d) none)
+  back (no_date none) = rw (false_from_ne_true (exists d) (λ e. none ((exists_is d).0 e)))
 
-  pub day_number_is : (a : DayNumber) → (day_number_of d ≡ a) ↔ DayNumberMeans d a
+  pub day_number_is : (a : Result ℕ WindowError) → (day_number_of d ≡ a) ↔ DayNumberMeans d a
   day_number_is a = (λ e. subst (DayNumberMeans d) e means, back)

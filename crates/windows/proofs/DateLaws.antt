@@ -1,59 +1,44 @@
 -- The test of a date says what it means, and the next day has the next number, over the ends of months and years.
 -- Assumes nothing.
 use mathlib.Core.Path.{◌≡◌, refl, sym, ◌∙◌, ap, subst}
-use mathlib.Core.Logic.{◌↔◌, ◌⊎◌, inl, inr}
-use mathlib.Core.Bool.{Bool, true, false, ◌&&◌, cond, false≢true, and-eq-true_iff}
-use mathlib.Core.List.{List, [], ◌∷◌}
-use Prim.Native.Nat.{ℕ, zero, suc, ◌+◌, ◌-◌, ◌≤◌}
+use mathlib.Core.Logic.{◌↔◌, ◌⊎◌, inl, inr, ⊎_elim}
+use mathlib.Core.Bool.{Bool, true, false, cond}
+use mathlib.Core.List.{List}
+use Rattle.std.specs.Prelude.{sum}
+use Prim.Native.Nat.{ℕ, suc, ◌+◌, ◌-◌, ◌≤◌}
+use native.Mathlib.Numerals.{add-one}
 use native.Mathlib.Omega.{arith}
 use lib.Dec.{ltb}
-use lib.ListN.{get_or, take}
-use borrow.Author.Tests.{leb-true, le-leb, ltb-true, ltb-false}
+use lib.ListN.{get_or, length, take}
+use borrow.Author.Tests.{ltb-true, ltb-false}
+use Rattle.std.proofs.lemmas.Bool.{cases_lt, iff_false}
+use Rattle.std.proofs.lemmas.Bool.Decides.{nat_tests}
+use Rattle.std.proofs.lemmas.List.{take_all, get_or_past}
+use Rattle.std.proofs.lemmas.List.Sums.{sum_by_more}
 use Rattle.windows.specs.declared.dates.Date.{Date}
-use Rattle.windows.specs.Calendar.{leap, month_lengths, month_length, sum}
+use Rattle.windows.specs.Calendar.{leap, month_lengths, month_length}
 use Rattle.windows.specs.Calendar.{days_before_month, year_length, days_of_years}
 use Rattle.windows.specs.Dates.{date_of, Exists, exists, day_number, next_day}
 use Rattle.windows.proofs.CalendarLaws.{month_some}
 
-split : (a b : Bool) → a && b ≡ true → (a ≡ true) × (b ≡ true)
-split a b = (and-eq-true_iff a b).0
-
 pub exists_is : (d : Date) → (exists d ≡ true) ↔ Exists d
 unfolding exists
 exists_is d = (
-  λ e.
-      let t5 = split _ _ e in
-      let t4 = split _ _ t5.0 in
-      let t3 = split _ _ t4.0 in
-      let t2 = split _ _ t3.0 in
-      let t1 = split _ _ t2.0 in
-      record {
-        since = leb-true _ _ t1.0;
-        until = leb-true _ _ t1.1;
-        month_from = leb-true _ _ t2.1;
-        month_to = leb-true _ _ t3.1;
-        day_from = leb-true _ _ t4.1;
-        day_to = leb-true _ _ t5.1;
-      },
-  λ x.
-      rw (
-        le-leb _ _ x.since,
-        le-leb _ _ x.until,
-        le-leb _ _ x.month_from,
-        le-leb _ _ x.month_to,
-        le-leb _ _ x.day_from,
-        le-leb _ _ x.day_to,
-      ),
+  λ e. record {
+    since = grind (arith, nat_tests);
+    until = grind (arith, nat_tests);
+    month_from = grind (arith, nat_tests);
+    month_to = grind (arith, nat_tests);
+    day_from = grind (arith, nat_tests);
+    day_to = grind (arith, nat_tests);
+  },
+  λ x. grind (arith, nat_tests),
 )
 
 -- what a test decides
 pub decided : {P : Type 0} (t : Bool) → (t ≡ true) ↔ P → P ⊎ (P → ⊥)
 decided true is = inl (is.0 refl)
-decided false is = inr (λ p. false≢true (is.1 p))
-
-pub refuted : {P : Type 0} (t : Bool) → (t ≡ true) ↔ P → (P → ⊥) → t ≡ false
-refuted true is none = absurd (none (is.0 refl))
-refuted false is none = refl
+decided false is = inr (iff_false is refl)
 
 pub exists? : (d : Date) → Exists d ⊎ (Exists d → ⊥)
 exists? d = decided (exists d) (exists_is d)
@@ -77,11 +62,10 @@ proper x = record {
 
 -- the days before the next month, and before the next year
 sum_step : (l : List ℕ) (m : ℕ) → sum (take (suc m) l) ≡ sum (take m l) + get_or l m 0
-unfolding sum
-sum_step [] zero = refl
-sum_step [] (suc m) = refl
-sum_step (n ∷ l) zero = omega arith
-sum_step (n ∷ l) (suc m) = omega (arith, sum_step l m)
+sum_step l m = ⊎_elim (λ h. rw (add-one m) at (sum_by_more (λ n. n) l m 0 h)) past (cases_lt m (length l))
+  where
+    past : length l ≤ m → sum (take (suc m) l) ≡ sum (take m l) + get_or l m 0
+    past h = rw (take_all (suc m) l (omega arith), take_all m l h, get_or_past l m 0 h) (omega arith)
 
 pub month_step : (year month : ℕ)
     → days_before_month year (suc month) ≡ days_before_month year month + month_length year month
@@ -89,7 +73,7 @@ unfolding days_before_month month_length
 month_step year month = sum_step (month_lengths (leap year)) month
 
 pub year_end : (year : ℕ) → year_length year ≡ days_before_month year 12 + month_length year 12
-unfolding year_length days_before_month month_length month_lengths sum
+unfolding year_length days_before_month month_length month_lengths
 year_end year = pick (leap year)
   where
     pick : (l : Bool) → sum (month_lengths l) ≡ sum (take 12 (month_lengths l)) + get_or (month_lengths l) 12 0
@@ -108,7 +92,7 @@ year_step year h = ap days_of_years next ∙ ap (λ y. days_of_years (year - 197
     same = omega arith
 
 january : (year : ℕ) → days_before_month year 1 ≡ 0
-unfolding days_before_month month_lengths sum
+unfolding days_before_month month_lengths
 january year = refl
 
 abbrev Follows : Date → Date → Type 0

@@ -1,13 +1,11 @@
 -- Earlier dates have lower numbers, and no two dates have one number.
 -- Assumes nothing.
-use mathlib.Core.Path.{◌≡◌, refl, sym, ap}
+use mathlib.Core.Path.{◌≡◌, sym, ap}
 use mathlib.Core.Logic.{◌↔◌, ◌⊎◌, inl, inr, ⊎_elim}
-use mathlib.Core.Bool.{Bool, true, false}
 use Prim.Native.Nat.{ℕ, zero, suc, ◌+◌, ◌-◌, ◌≤◌, ◌<◌}
 use native.Mathlib.Nat.{eq-or-lt_of_le, le_of_eq}
 use native.Mathlib.Omega.{arith}
-use lib.Dec.{ltb}
-use borrow.Author.Tests.{ltb-true, ltb-false}
+use Rattle.std.proofs.lemmas.Bool.{cases_order}
 use Rattle.windows.specs.declared.dates.Date.{Date}
 use Rattle.windows.specs.Calendar.{days_before_month, days_of_years}
 use Rattle.windows.specs.Dates.{Exists, day_number, Earlier, by_year, by_month, by_day}
@@ -59,38 +57,30 @@ module _ (d e : Date) (p : Proper d) where
       same : month_start d.year d.month ≡ month_start e.year e.month
       same i = month_start (y i) (m i)
 
--- of two numbers one is lower, or they are equal
-abbrev Apart : ℕ → ℕ → Type 0
-Apart m n = (m < n) ⊎ ((m ≡ n) ⊎ (n < m))
-
-apart : (m n : ℕ) → Apart m n
-apart m n = pick (ltb m n) (ltb n m) refl refl
-  where
-    pick : (a b : Bool) → ltb m n ≡ a → ltb n m ≡ b → Apart m n
-    pick true b e f = inl (ltb-true m n e)
-    pick false true e f = inr (inr (ltb-true n m f))
-    pick false false e f = inr (inl (omega (arith, ltb-false m n e, ltb-false n m f)))
-
--- of two dates one is earlier, or they are one date
+-- two dates are one date, or one is earlier
 abbrev Ordered : Date → Date → Type 0
-Ordered d e = Earlier d e ⊎ ((d ≡ e) ⊎ Earlier e d)
+Ordered d e = (d ≡ e) ⊎ (Earlier d e ⊎ Earlier e d)
 
 ordered : (d e : Date) → Ordered d e
-ordered d e = by_years (apart d.year e.year)
+ordered d e = by_years (cases_order d.year e.year)
   where
+    -- two numbers in this order
+    Apart : ℕ → ℕ → Type 0
+    Apart m n = (m ≡ n) ⊎ ((m < n) ⊎ (n < m))
+
     by_days : d.year ≡ e.year → d.month ≡ e.month → Apart d.day e.day → Ordered d e
-    by_days y m (inl less) = inl (by_day y m less)
-    by_days y m (inr (inl same)) = inr (inl (λ i. record { year = y i; month = m i; day = same i }))
+    by_days y m (inl same) = inl (λ i. record { year = y i; month = m i; day = same i })
+    by_days y m (inr (inl less)) = inr (inl (by_day y m less))
     by_days y m (inr (inr more)) = inr (inr (by_day (sym y) (sym m) more))
 
     by_months : d.year ≡ e.year → Apart d.month e.month → Ordered d e
-    by_months y (inl less) = inl (by_month y less)
-    by_months y (inr (inl same)) = by_days y same (apart d.day e.day)
+    by_months y (inl same) = by_days y same (cases_order d.day e.day)
+    by_months y (inr (inl less)) = inr (inl (by_month y less))
     by_months y (inr (inr more)) = inr (inr (by_month (sym y) more))
 
     by_years : Apart d.year e.year → Ordered d e
-    by_years (inl less) = inl (by_year less)
-    by_years (inr (inl same)) = by_months same (apart d.month e.month)
+    by_years (inl same) = by_months same (cases_order d.month e.month)
+    by_years (inr (inl less)) = inr (inl (by_year less))
     by_years (inr (inr more)) = inr (inr (by_year more))
 
 module _ (d e : Date) (p : Proper d) (q : Proper e) where
@@ -99,8 +89,8 @@ module _ (d e : Date) (p : Proper d) (q : Proper e) where
   one_number n = pick (ordered d e)
     where
       pick : Ordered d e → d ≡ e
-      pick (inl before) = absurd (omega (arith, lower d e p before))
-      pick (inr (inl same)) = same
+      pick (inl same) = same
+      pick (inr (inl before)) = absurd (omega (arith, lower d e p before))
       pick (inr (inr behind)) = absurd (omega (arith, lower e d q behind))
 
 -- an existing date is earlier than another exactly if its number is lower
@@ -108,8 +98,8 @@ pub earlier_is : (d e : Date) → Exists d → Exists e → Earlier d e ↔ (day
 earlier_is d e x y = (lower d e (proper x), λ h. pick h (ordered d e))
   where
     pick : day_number d < day_number e → Ordered d e → Earlier d e
-    pick h (inl before) = before
-    pick h (inr (inl same)) = absurd (omega (arith, ap day_number same))
+    pick h (inl same) = absurd (omega (arith, ap day_number same))
+    pick h (inr (inl before)) = before
     pick h (inr (inr behind)) = absurd (omega (arith, lower e d (proper y) behind))
 
 pub not_earlier_is : (d e : Date) → Exists d → Exists e → (Earlier d e → ⊥) ↔ (day_number e ≤ day_number d)

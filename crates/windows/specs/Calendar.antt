@@ -1,5 +1,5 @@
 -- The Gregorian calendar (document 02, A1): leap years, and the lengths of months and years.
-use Rattle.std.specs.Prelude.{Bool, ◌&&◌, ◌||◌, not, cond, List, [], ◌∷◌, ℕ, zero, suc, ◌+◌, ◌%◌, eqb, get_or, take}
+use Rattle.std.specs.Prelude.{Bool, ◌&&◌, ◌||◌, not, cond, List, [], ◌∷◌, ℕ, zero, suc, ◌+◌, ◌%◌, eqb, get_or, sum, take}
 
 -- every fourth year; of those that end a century, every fourth
 unfoldable pub leap : ℕ → Bool
@@ -12,10 +12,6 @@ month_lengths in_leap_year = 0 ∷ 31 ∷ cond in_leap_year 29 28 ∷ 31 ∷ 30 
 -- the days of a month; a number other than 1 to 12 has none
 unfoldable pub month_length : ℕ → ℕ → ℕ
 month_length year month = get_or (month_lengths (leap year)) month 0
-
-unfoldable pub sum : List ℕ → ℕ
-sum [] = 0
-sum (n ∷ ns) = n + sum ns
 
 -- the days of a year in the months before the given one
 unfoldable pub days_before_month : ℕ → ℕ → ℕ

@@ -1,10 +1,10 @@
 -- Dates and their day numbers: document 02, A1, "A date is year, month, day in the Gregorian calendar, 1970 to 2199;
 -- its day number counts from 1 January 1970, which is 0." That the number is the count is `count_is` in
 -- proofs/CountLaws.
-use Rattle.std.specs.Prelude.{◌≡◌, Bool, ◌&&◌, cond, ℕ, zero, suc, ◌+◌, ◌-◌, ◌≤◌, ◌<◌, leb, ltb}
+use Rattle.std.specs.Prelude.{◌≡◌, Bool, ◌&&◌, cond, ℕ, zero, suc, ◌+◌, ◌-◌, ◌≤◌, ◌<◌, leb, ltb, Result, Ok, Err}
 use Rattle.windows.specs.declared.dates.Date.{Date}
-use Rattle.windows.specs.declared.dates.DayNumber.{DayNumber}
-use Rattle.windows.specs.declared.dates.DayNumber.TheVariants.{Day, Refused}
+use Rattle.windows.specs.declared.errors.WindowError.{WindowError}
+use Rattle.windows.specs.declared.errors.WindowError.TheVariants.{NoSuchDate}
 use Rattle.windows.specs.Calendar.{month_length, days_before_month, days_of_years}
 
 unfoldable pub date_of : ℕ → ℕ → ℕ → Date
@@ -47,11 +47,11 @@ unfoldable pub date_after : ℕ → Date
 date_after zero = date_of 1970 1 1
 date_after (suc n) = next_day (date_after n)
 
--- "It refuses with 15 if any of the .. dates does not exist or lies outside those years"
-unfoldable pub day_number_of : Date → DayNumber
-day_number_of d = cond (exists d) (Day (day_number d)) (Refused 15 0)
+-- "It refuses with 15 if any of the .. dates does not exist or lies outside those years": 15 is `number_of NoSuchDate`
+unfoldable pub day_number_of : Date → Result ℕ WindowError
+day_number_of d = cond (exists d) (Ok (day_number d)) (Err NoSuchDate)
 
 -- what each answer means; `day_number_is` in proofs/CountLaws: each is answered exactly if it holds
-pub data DayNumberMeans (d : Date) : DayNumber → Type 0 where
-  counted : {n : ℕ} → Exists d → date_after n ≡ d → DayNumberMeans d (Day n)
-  no_date : (Exists d → ⊥) → DayNumberMeans d (Refused 15 0)
+pub data DayNumberMeans (d : Date) : Result ℕ WindowError → Type 0 where
+  counted : {n : ℕ} → Exists d → date_after n ≡ d → DayNumberMeans d (Ok n)
+  no_date : (Exists d → ⊥) → DayNumberMeans d (Err NoSuchDate)

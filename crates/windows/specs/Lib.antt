@@ -1,3 +1,4 @@
+pub mod Errors
 pub mod Calendar
 pub mod Dates
 pub mod Access

@@ -2,26 +2,26 @@
 ghost use Rattle.std.specs.Prelude.{◌≡◌};
 ghost use Rattle.windows.specs.Access.{window_of, open_on};
 
-use crate::calendar::days_before;
 use crate::dates::Date;
+use crate::errors::WindowError;
 
 // From the first date's day to the last date's day, both included.
-#[derive(Clone, Copy)]
+#[derive(Clone, Copy, Debug, PartialEq, Eq)]
 pub struct Window {
     pub first: Date,
     pub last: Date,
 }
 
-// What a window answers to a date: open or closed, or number and place of a refusal.
-#[derive(Clone, Copy)]
+// Whether the sheet is open on a day.
+#[derive(Clone, Copy, Debug, PartialEq, Eq)]
 pub enum Access {
     Open,
     Closed,
-    Refused { number: usize, place: usize },
 }
 
 impl Window {
     // The window from one date to another.
+    #[tactic(auto, unfolding(crate::specs::Access::window_of))]
     pub fn new(first: Date, last: Date) -> Window
         ensures { result ≡ window_of first last }
     {
@@ -29,28 +29,20 @@ impl Window {
     }
 
     // Is the sheet open on this day?
-    pub fn open_on(self, day: Date) -> Access
+    #[tactic(auto, unfolding(crate::specs::Access::open_on, crate::specs::Dates::day_number_of))]
+    pub fn open_on(self, day: Date) -> Result<Access, WindowError>
         ensures { result ≡ open_on self day }
     {
-        if !(self.first.exists() & self.last.exists() & day.exists()) {
-            return Access::Refused {
-                number: 15,
-                place: 0,
-            };
-        }
-        let first = days_before(self.first);
-        let last = days_before(self.last);
+        let first = self.first.day_number()?;
+        let last = self.last.day_number()?;
+        let asked = day.day_number()?;
         if last < first {
-            return Access::Refused {
-                number: 16,
-                place: 0,
-            };
+            return Err(WindowError::Reversed);
         }
-        let asked = days_before(day);
-        if (first <= asked) & (asked <= last) {
-            Access::Open
+        if (first..=last).contains(&asked) {
+            Ok(Access::Open)
         } else {
-            Access::Closed
+            Ok(Access::Closed)
         }
     }
 }

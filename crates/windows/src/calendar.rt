@@ -5,30 +5,29 @@ ghost use Rattle.windows.specs.Dates.{Exists, day_number};
 
 use crate::dates::Date;
 
-// By month, from 0, which is none: its days in a year that is no leap year.
-const LENGTHS: [u8; 13] = [0, 31, 28, 31, 30, 31, 30, 31, 31, 30, 31, 30, 31];
-
-// By month: the days of the months before it, in a year that is no leap year.
-const BEFORE: [u16; 13] = [0, 0, 31, 59, 90, 120, 151, 181, 212, 243, 273, 304, 334];
+// By month: the days of the months before it, in a year that is no leap year. A `match` of 13 arms is no plainer.
+const BEFORE: [usize; 13] = [0, 0, 31, 59, 90, 120, 151, 181, 212, 243, 273, 304, 334];
 
 // Is this a leap year?
+#[tactic(auto, unfolding(crate::specs::Calendar::leap))]
 fn leap(year: usize) -> bool
     ensures { result ≡ leap_of year }
 {
-    (year % 4 == 0) & ((year % 100 != 0) | (year % 400 == 0))
+    year % 4 == 0 && (year % 100 != 0 || year % 400 == 0)
 }
 
 // The days of a month; a number that is no month has none.
+#[tactic(auto, unfolding(crate::specs::Calendar::month_length, crate::specs::Calendar::month_lengths))]
 pub fn month_length(year: usize, month: usize) -> usize
     ensures { result ≡ month_length year month }
 {
-    if 12 < month {
-        return 0;
+    match month {
+        1 | 3 | 5 | 7 | 8 | 10 | 12 => 31,
+        4 | 6 | 9 | 11 => 30,
+        2 if leap(year) => 29,
+        2 => 28,
+        _ => 0,
     }
-    if leap(year) & (month == 2) {
-        return 29;
-    }
-    LENGTHS[month] as usize
 }
 
 // The days of a year before a month.
@@ -37,7 +36,7 @@ fn days_before_month(year: usize, month: usize) -> usize
     ensures value { result ≡ days_before_month year month }
     ensures range { result ≤ 335 }
 {
-    let days = BEFORE[month] as usize;
+    let days = BEFORE[month];
     if leap(year) & (2 < month) {
         return days + 1;
     }
@@ -46,6 +45,7 @@ fn days_before_month(year: usize, month: usize) -> usize
 
 // The days from the first of January 1970 to that of a year: 365 for each year between and one more for each leap year.
 // Of the leap years since year 1, 477 are before 1970.
+#[tactic(auto, using(crate::proofs::CalendarLaws::year_closed))]
 fn days_before_year(year: usize) -> usize
     requires { (1970 ≤ year) × (year ≤ 2199) }
     ensures value { result ≡ days_of_years (year - 1970) }
@@ -56,6 +56,7 @@ fn days_before_year(year: usize) -> usize
 }
 
 // The days from 1 January 1970 to a date that exists.
+#[tactic(auto, using(crate::proofs::CalendarLaws::month_most), unfolding(crate::specs::Dates::day_number))]
 pub fn days_before(date: Date) -> usize
     requires { Exists date }
     ensures { result ≡ day_number date }

@@ -3,46 +3,35 @@ ghost use Rattle.std.specs.Prelude.{◌≡◌};
 ghost use Rattle.windows.specs.Dates.{exists as existing, day_number_of};
 
 use crate::calendar::{days_before, month_length};
+use crate::errors::WindowError;
 
 // Any year, month and day; `exists` tells whether there is such a date.
-#[derive(Clone, Copy)]
+#[derive(Clone, Copy, Debug, PartialEq, Eq)]
 pub struct Date {
     pub year: usize,
     pub month: usize,
     pub day: usize,
 }
 
-// The number of a day, or number and place of a refusal.
-#[derive(Clone, Copy)]
-pub enum DayNumber {
-    Day(usize),
-    Refused { number: usize, place: usize },
-}
-
 impl Date {
     // Does the calendar have this date, in the years from 1970 to 2199?
+    #[tactic(auto, unfolding(crate::specs::Dates::exists))]
     pub fn exists(self) -> bool
         ensures { result ≡ existing self }
     {
-        (1970 <= self.year)
-            & (self.year <= 2199)
-            & (1 <= self.month)
-            & (self.month <= 12)
-            & (1 <= self.day)
-            & (self.day <= month_length(self.year, self.month))
+        (1970..=2199).contains(&self.year)
+            && (1..=12).contains(&self.month)
+            && (1..=month_length(self.year, self.month)).contains(&self.day)
     }
 
     // How many days after 1 January 1970 this date is.
-    pub fn day_number(self) -> DayNumber
+    #[tactic(auto, using(crate::proofs::DateLaws::exists_is), unfolding(crate::specs::Dates::day_number_of))]
+    pub fn day_number(self) -> Result<usize, WindowError>
         ensures { result ≡ day_number_of self }
     {
-        if self.exists() {
-            DayNumber::Day(days_before(self))
-        } else {
-            DayNumber::Refused {
-                number: 15,
-                place: 0,
-            }
+        if !self.exists() {
+            return Err(WindowError::NoSuchDate);
         }
+        Ok(days_before(self))
     }
 }

@@ -5,3 +5,4 @@
 pub mod access;
 mod calendar;
 pub mod dates;
+pub mod errors;

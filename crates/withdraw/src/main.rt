@@ -3,33 +3,35 @@
 // handed over in the order given: a list that does not rise is refused for that.
 #![tactic(auto)]
 
-use answers::arguments::{argument_count, put_argument};
+use answers::arguments::{argument, argument_count};
 use answers::input::read_sheet;
-use answers::numbers::{Reading, read_number};
+use answers::numbers::read_number;
 use answers::output::make_file;
 use answers::replies::withdrawal_reply;
-use sheets::withdrawal::Withdrawal;
 use std::io;
 use std::rt::{Env, Files};
 
-// The number that an argument spells. One that is missing or too long counts as empty.
-fn line_argument(rt: &impl Env, place: usize) -> Reading {
-    let mut text = [0u8; 32];
-    let length = put_argument(rt, place, &mut text);
-    read_number(&text[..length])
+// Fills `set` with the numbers that the arguments from the first on spell, if each of them spells one.
+fn read_lines(rt: &impl Env, set: &mut [usize]) -> Option<()> {
+    for (i, line) in set.iter_mut().enumerate() {
+        *line = read_number(argument(rt, i + 1, &mut [0; 32])?)?;
+    }
+    Some(())
 }
 
-// Fills `set` with the numbers that the arguments from the first on spell, and answers whether each of them spells one.
-fn read_lines(rt: &impl Env, set: &mut [usize]) -> bool {
-    let mut i = 0;
-    while i < set.len() {
-        let Reading::Number(number) = line_argument(rt, i + 1) else {
-            return false;
-        };
-        set[i] = number;
-        i += 1;
+// What the arguments name: one to 1,024 lines, then a file.
+fn request<'a>(
+    rt: &impl Env,
+    set: &'a mut [usize; 1024],
+    path: &'a mut [u8],
+) -> Option<(&'a [usize], &'a [u8])> {
+    let arguments = argument_count(rt);
+    if !(3..=1026).contains(&arguments) {
+        return None;
     }
-    true
+    let lines = &mut set[..arguments - 2];
+    read_lines(rt, lines)?;
+    Some((lines, argument(rt, arguments - 1, path)?))
 }
 
 // Withdraws the lines of a set, and makes the new file before it says so.
@@ -40,16 +42,13 @@ fn withdraw_to(
     path: &[u8],
 ) -> io::Result<()> {
     let mut out = [0u8; 52240];
-    let mut text = [0u8; 80];
-    let reply = withdrawal_reply(sheet, set, &mut out, &mut text);
-    let answer = reply.answer;
-    if let Withdrawal::Written { length } = answer {
+    let reply = withdrawal_reply(sheet, set, &mut out);
+    if let Ok(length) = reply.answer {
         if !make_file(rt, path, &out[..length]) {
             return Ok(());
         }
     }
-    let count = reply.count;
-    rt.write_all(&text[..count])
+    rt.write_all(reply.line.as_bytes())
 }
 
 // The same, for the sheet on standard input.
@@ -59,51 +58,17 @@ fn withdraw_input(
     path: &[u8],
 ) -> io::Result<()> {
     let mut sheet = [0u8; 52241];
-    let input = read_sheet(rt, &mut rt.reader(), &mut sheet);
-    let length = input.length;
-    if input.whole {
+    if let Ok(length) = read_sheet(rt, &mut rt.reader(), &mut sheet) {
         withdraw_to(rt, &sheet[..length], set, path)?;
     }
     Ok(())
 }
 
-// The same, for the lines that the first arguments name, as many as `set` has room for. Answers whether they do.
-fn withdraw_named(
-    rt: &(impl Files + Input + Env + Print + Eprint),
-    set: &mut [usize],
-    path: &[u8],
-) -> io::Result<bool> {
-    if !read_lines(rt, set) {
-        return Ok(false);
-    }
-    withdraw_input(rt, set, path)?;
-    Ok(true)
-}
-
-// The same, for all arguments: one to 1,024 lines, then a file's name.
-fn withdraw_arguments(rt: &(impl Files + Input + Env + Print + Eprint)) -> io::Result<bool> {
-    let arguments = argument_count(rt);
-    if arguments < 3 {
-        return Ok(false);
-    }
-    let count = arguments - 2;
-    if 1024 < count {
-        return Ok(false);
-    }
-    let mut path = [0u8; 4096];
-    let length = put_argument(rt, arguments - 1, &mut path);
-    if length == 0 {
-        return Ok(false);
-    }
-    let mut set = [0usize; 1024];
-    withdraw_named(rt, &mut set[..count], &path[..length])
-}
-
 fn main(rt: HostRuntime) -> io::Result<()> {
-    if !withdraw_arguments(&rt)? {
-        rt.eprintln(
+    match request(&rt, &mut [0; 1024], &mut [0; 4096]) {
+        Some((set, path)) => withdraw_input(&rt, set, path),
+        None => rt.eprintln(
             "usage: withdraw LINE.. NEWFILE < SHEET, one to 1,024 numbers below 18446744073709551616 and a new file's name",
-        )?;
+        ),
     }
-    Ok(())
 }

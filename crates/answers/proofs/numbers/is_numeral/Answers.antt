@@ -1,20 +1,16 @@
-use mathlib.Core.Path.{sym, ◌∙◌}
-use borrow.Author.Tests.{not-true, not-false}
-use Rattle.answers.proofs.NumberLaws.{no_digits, all_digits_lem, other_byte, one_digit}
+use mathlib.Core.Path.{◌∙◌}
+use Rattle.std.proofs.Common.{rules, tests}
+use Rattle.std.proofs.lemmas.Iterator.{YieldsList-from_slice}
+use Rattle.std.proofs.lemmas.Iterator.Search.{all_from_yields_List}
+use Rattle.std.specs.Char.{is_ascii_digit}
+use Rattle.answers.proofs.NumberLaws.{numeral_all, empty_numeral}
 use Rattle.answers.proofs.numbers.is_numeral.Goals as goal
 
-pub loop-i-init : goal.loop-i-init
-loop-i-init c = no_digits _
+pub returns-then-not-is_empty : goal.returns-then-not-is_empty
+returns-then-not-is_empty c =
+    all_from_yields_List is_ascii_digit _ _ c.all.result c.all.ensures.ran (YieldsList-from_slice c.args.text.now cc)
+    (λ x b q k. search (rules, tests))
+    ∙ numeral_all _ (search rules)
 
-pub returns-then-not-is_digit : goal.returns-then-not-is_digit
-returns-then-not-is_digit c =
-    other_byte _ _ c.loop-i.invariant c.loop-i-test.true
-    (sym c.is_digit.ensures ∙ not-true _ c.if-not-is_digit.true-raw)
-
-pub loop-i-preserved : goal.loop-i-preserved
-loop-i-preserved c =
-    one_digit _ _ c.loop-i.invariant c.loop-i-test.true
-    (sym c.is_digit.ensures ∙ not-false _ c.if-not-is_digit.false-raw)
-
-pub returns : goal.returns
-returns c = all_digits_lem _ _ c.loop-i.invariant c.loop-i-test.false
+pub returns-else-not-is_empty : goal.returns-else-not-is_empty
+returns-else-not-is_empty c = rw c.if-not-is_empty.false (empty_numeral _ (search rules))

@@ -1,18 +1,23 @@
-use Rattle.answers.proofs.PartLaws.{none_passed, at_end, found, passes}
+use mathlib.Core.Path.{sym, ◌∙◌}
+use native.Mathlib.Omega.{arith}
+use lib.Dec.{eqb}
+use lib.ListN.{drop, length-drop}
+use Rattle.std.proofs.Common.{rules, tests}
+use Rattle.std.proofs.lemmas.Iterator.{YieldsList-from_slice}
+use Rattle.std.proofs.lemmas.Iterator.Search.{position_from_yields_List}
+use Rattle.answers.proofs.PartLaws.{position_is, rest_whole}
 use Rattle.answers.proofs.parts.place_of.Goals as goal
 
-pub loop-i-init : goal.loop-i-init
-loop-i-init c = none_passed _ _ _ c.requires
+pub returns-in-Some-clause-value : goal.returns-in-Some-clause-value
+returns-in-Some-clause-value c =
+    let rest = drop c.args.from c.args.text.now in
+    let found = position_from_yields_List (λ b. eqb b c.args.byte) _ _ c.position.result c.position.ensures.ran
+    (YieldsList-from_slice rest (c.iter.ensures.rest ∙ rest_whole c.args.text.now c.args.from)) (λ x b q k. search (rules, tests)) in
+    omega (arith, position_is c.args.byte rest (sym c.in-Some.is ∙ found))
 
-pub returns-then-text-i : goal.returns-then-text-i
-returns-then-text-i c =
-    let whole = found c.loop-i.invariant c.loop-i-test.true c.if-text-i.true in
-    record { value = whole.0; range = whole.1 }
-
-pub loop-i-preserved : goal.loop-i-preserved
-loop-i-preserved c = passes c.loop-i.invariant c.loop-i-test.true c.if-text-i.false
-
-pub returns : goal.returns
-returns c =
-    let whole = at_end c.loop-i.invariant c.loop-i-test.false in
-    record { value = whole.0; range = whole.1 }
+pub returns-in-None-clause-value : goal.returns-in-None-clause-value
+returns-in-None-clause-value c =
+    let rest = drop c.args.from c.args.text.now in
+    let found = position_from_yields_List (λ b. eqb b c.args.byte) _ _ c.position.result c.position.ensures.ran
+    (YieldsList-from_slice rest (c.iter.ensures.rest ∙ rest_whole c.args.text.now c.args.from)) (λ x b q k. search (rules, tests)) in
+    omega (arith, c.requires, position_is c.args.byte rest (sym c.in-None.is ∙ found), length-drop c.args.from c.args.text.now)

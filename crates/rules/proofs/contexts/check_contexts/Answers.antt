@@ -9,17 +9,17 @@ pub loop-n-init : goal.loop-n-init
 unfolding check_contexts
 loop-n-init c = (omega arith, looking_start _ (omega arith) refl)
 
+pub returns-then-not-right : goal.returns-then-not-right
+returns-then-not-right c =
+    looking_here c.loop-n.invariant.1 (omega (arith, c.loop-n-test.true))
+    (ap not (sym c.right.ensures ∙ c.if-not-right.true))
+
 pub loop-n-preserved : goal.loop-n-preserved
 loop-n-preserved c = (
   omega arith,
   looking_next c.loop-n.invariant.1 (omega (arith, c.loop-n-test.true))
-      (ap not (sym c.right.ensures ∙ c.if-right.true)),
+      (ap not (sym c.right.ensures ∙ c.if-not-right.false)),
 )
 
-pub returns-else-right : goal.returns-else-right
-returns-else-right c =
-    looking_here c.loop-n.invariant.1 (omega (arith, c.loop-n-test.true))
-    (ap not (sym c.right.ensures ∙ c.if-right.false))
-
 pub returns : goal.returns
-returns c = looking_end c.loop-n.invariant.1 c.loop-n-test.false
+returns c = looking_end c.loop-n.invariant.1 (omega (arith, c.loop-n-test.false))

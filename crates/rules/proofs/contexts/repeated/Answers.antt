@@ -2,13 +2,12 @@ use mathlib.Core.Path.{refl, sym, ◌∙◌, ap}
 use Rattle.rules.specs.Contexts.{repeated_within}
 use Rattle.rules.proofs.ContextTableCheckLaws.{some_repeated}
 use Rattle.rules.proofs.ContextTableAnswers.{repeated_next}
-use borrow.Author.Rules.{rules}
 use native.Mathlib.Omega.{arith}
 use Rattle.rules.proofs.contexts.repeated.Goals as goal
 
 pub loop-i-init : goal.loop-i-init
 unfolding repeated_within
-loop-i-init c = (search rules, refl)
+loop-i-init c = refl
 
 pub returns-then-holds : goal.returns-then-holds
 returns-then-holds c =
@@ -16,9 +15,9 @@ returns-then-holds c =
 
 pub loop-i-preserved : goal.loop-i-preserved
 loop-i-preserved c =
-    (search rules, repeated_next _ _ _ _ c.loop-i.invariant.1 (sym c.holds.ensures ∙ c.if-holds.false))
+    repeated_next _ _ _ _ c.loop-i.invariant (sym c.holds.ensures ∙ c.if-holds.false)
 
 pub returns : goal.returns
 returns c =
-    sym c.loop-i.invariant.1
+    sym c.loop-i.invariant
     ∙ ap (repeated_within c.args.contexts.now c.args.above c.args.row) (omega arith)

@@ -1,12 +1,8 @@
 -- None of the rows passed holds the words.
 use mathlib.Core.Path.{◌≡◌}
 use mathlib.Core.Bool.{false}
-use Prim.Native.Nat.{◌≤◌, ◌-◌}
 use Rattle.rules.specs.Contexts.{repeated_within}
 use Rattle.rules.proofs.contexts.repeated.Given as goal
 
 abbrev pub invariant-loop-i : goal.invariant-loop-i
-invariant-loop-i l = (l.i ≤ l.count) × (repeated_within l.contexts l.above l.row l.i ≡ false)
-
-abbrev pub decreases-loop-i : goal.decreases-loop-i
-decreases-loop-i l = l.count - l.i
+invariant-loop-i l = repeated_within l.contexts l.above l.row l.i ≡ false

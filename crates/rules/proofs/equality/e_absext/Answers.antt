@@ -6,12 +6,12 @@ use mathlib.Core.List.{[], ◌∷◌}
 use Rattle.terms.specs.Term.{Term, app, pi, var}
 use Rattle.terms.specs.Tag.{child}
 use Rattle.terms.specs.Substitution.{shift}
-use Rattle.terms.proofs.Tests.{decides_via, ◌&◌, decides_then, decides_not, other_rows}
+use Rattle.terms.proofs.Tests.{decides_via, ◌&◌, decides_then, decides_not}
 use Rattle.rules.specs.Judgment.{Context, equal}
 use Rattle.rules.specs.Instance.{Instance}
 use Rattle.rules.specs.RuleChecks.{rule_subjects, FollowsIn}
 use Rattle.rules.proofs.EqualityLaws.{rule_21}
-use Rattle.rules.proofs.ContextTableAnswers.{rows_known, rows_of}
+use Rattle.rules.proofs.ContextTableAnswers.{rows_of}
 use native.Mathlib.Omega.{arith}
 use Rattle.rules.proofs.equality.e_absext.Goals as goal
 
@@ -27,107 +27,12 @@ agrees k₁ k₂ k₃ k₄ k₅ = (
   λ i. let t = rule_21.0 i in ((((((cc, cc), cc), cc), cc), cc), (cc, cc)),
 )
 
-pub child-a-requires : goal.child-a-requires
-unfolding rule_subjects
-child-a-requires c =
-    (other_rows (λ n h. (omega (arith, h), tt)) (rows_known c.requires), omega arith, omega arith)
-
-pub child-f-requires : goal.child-f-requires
-unfolding rule_subjects
-child-f-requires c =
-    let rows = c.requires in
-    (other_rows (λ n h. (omega (arith, h), tt)) (rows_known rows), omega arith, omega arith)
-
-pub child-x-requires : goal.child-x-requires
-unfolding rule_subjects
-child-x-requires c =
-    let rows = c.requires in
-    (other_rows (λ n h. (omega (arith, h), tt)) (rows_known rows), omega arith, omega arith)
-
-pub child-g-requires : goal.child-g-requires
-unfolding rule_subjects
-child-g-requires c =
-    let rows = c.requires in
-    (other_rows (λ n h. (omega (arith, h), tt)) (rows_known rows), omega arith, omega arith)
-
-pub child-y-requires : goal.child-y-requires
-unfolding rule_subjects
-child-y-requires c =
-    let rows = c.requires in
-    (other_rows (λ n h. (omega (arith, h), tt)) (rows_known rows), omega arith, omega arith)
-
 pub extends-requires : goal.extends-requires
 unfolding rule_subjects
 extends-requires c =
     let rows = c.requires in
     rows_of rows (omega (arith, rows.given.within), (omega (arith, rows.given.within), tt))
     (omega (arith, rows.below, c.child-a.ensures.below), tt)
-
-pub is_node-requires : goal.is_node-requires
-unfolding rule_subjects
-is_node-requires c =
-    let rows = c.requires in
-    other_rows
-    (λ n h. (omega (arith, h), (omega (arith, h, c.child-a.ensures.below), (omega (arith, h), tt))))
-    (rows_known rows)
-
-pub is_node-requires-2 : goal.is_node-requires-2
-unfolding rule_subjects
-is_node-requires-2 c =
-    let rows = c.requires in
-    other_rows
-    (λ n h. (
-      omega (arith, h),
-      (
-        omega (arith, h, c.child-f.ensures.below),
-        (omega (arith, h, c.child-x.ensures.below), tt),
-      ),
-    )) (rows_known rows)
-
-pub is_node-requires-3 : goal.is_node-requires-3
-unfolding rule_subjects
-is_node-requires-3 c =
-    let rows = c.requires in
-    other_rows (λ n h. (omega (arith, h, c.child-x.ensures.below), tt)) (rows_known rows)
-
-pub is_node-requires-4 : goal.is_node-requires-4
-unfolding rule_subjects
-is_node-requires-4 c =
-    let rows = c.requires in
-    other_rows
-    (λ n h. (
-      omega (arith, h),
-      (
-        omega (arith, h, c.child-g.ensures.below),
-        (omega (arith, h, c.child-y.ensures.below), tt),
-      ),
-    )) (rows_known rows)
-
-pub is_node-requires-5 : goal.is_node-requires-5
-unfolding rule_subjects
-is_node-requires-5 c =
-    let rows = c.requires in
-    other_rows (λ n h. (omega (arith, h, c.child-y.ensures.below), tt)) (rows_known rows)
-
-pub is_shifted-requires : goal.is_shifted-requires
-unfolding rule_subjects
-is_shifted-requires c =
-    let rows = c.requires in (
-      other_rows (λ n h. (omega (arith, h), (omega (arith, h, c.child-f.ensures.below), tt)))
-          (rows_known rows),
-      omega (arith, rows.below, rows.given.few_terms),
-      omega arith,
-    )
-
-pub is_shifted-requires-then-extends-is_node : goal.is_shifted-requires-then-extends-is_node
-unfolding rule_subjects
-is_shifted-requires-then-extends-is_node c =
-    let rows = c.requires in (
-      other_rows (λ n h. (omega (arith, h), (omega (arith, h, c.child-g.ensures.below), tt)))
-          (rows_known rows),
-      omega (arith, rows.below, rows.given.few_terms),
-      omega arith,
-    )
 
 pub returns-then-extends-is_node : goal.returns-then-extends-is_node
 unfolding FollowsIn

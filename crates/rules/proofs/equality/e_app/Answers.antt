@@ -1,70 +1,10 @@
--- E-APP: the tests are joined, and together they are the law of rule 22.
+-- E-APP: the typing rule of the left sides, and the right side.
 -- Assumes nothing.
-use mathlib.Core.Path.{◌≡◌, refl}
-use mathlib.Core.Logic.{◌↔◌}
-use mathlib.Core.List.{[], ◌∷◌}
-use Rattle.terms.specs.Term.{Term, app, pi}
-use Rattle.terms.specs.Tag.{child}
-use Rattle.terms.specs.Substitution.{◌⟨◌⟩}
-use Rattle.terms.proofs.Tests.{decides_via, ◌&◌, decides_then, decides_not, other_rows}
-use Rattle.rules.specs.Judgment.{Context, equal}
-use Rattle.rules.specs.Instance.{Instance}
-use Rattle.rules.specs.RuleChecks.{rule_subjects, FollowsIn}
-use Rattle.rules.proofs.EqualityLaws.{rule_22}
-use native.Mathlib.Omega.{arith}
+use Rattle.terms.proofs.Tests.{decides_via, ◌&◌}
+use Rattle.rules.specs.RuleChecks.{FollowsIn}
+use Rattle.rules.proofs.CongruenceLaws.{congruence_22}
 use Rattle.rules.proofs.equality.e_app.Goals as goal
 
--- the tests together are the rule
-agrees : {G : Context} {c₁ c₂ c₃ p₁ p₂ p₃ q₁ q₂ q₃ b : Term} → b ≡ child p₃ 2
-    → ((((p₃ ≡ pi q₃ b) × (c₁ ≡ app p₁ q₁)) × (c₂ ≡ app p₂ q₂)) × (c₃ ≡ b ⟨ q₁ ⟩))
-    ↔ Instance 22 (equal G p₁ p₂ p₃ ∷ equal G q₁ q₂ q₃ ∷ []) (equal G c₁ c₂ c₃)
-unfolding child
-agrees k₁ = (λ h. rule_22.1 (refl, refl, cc, cc, cc, cc), λ i. let t = rule_22.0 i in (((cc, cc), cc), cc))
-
-pub child-b-requires : goal.child-b-requires
-unfolding rule_subjects
-child-b-requires c = (other_rows (λ n h. (omega (arith, h), tt)) c.requires, omega arith, omega arith)
-
-pub is_node-requires : goal.is_node-requires
-unfolding rule_subjects
-is_node-requires c =
-    other_rows (λ n h. (omega (arith, h), (omega (arith, h), (omega (arith, h, c.child-b.ensures.below), tt))))
-    c.requires
-
-pub is_node-requires-2 : goal.is_node-requires-2
-unfolding rule_subjects
-is_node-requires-2 c =
-    let rows = c.requires in
-    other_rows (λ n h. (omega (arith, h), (omega (arith, h), (omega (arith, h), tt)))) rows
-
-pub is_node-requires-3 : goal.is_node-requires-3
-unfolding rule_subjects
-is_node-requires-3 c =
-    let rows = c.requires in
-    other_rows (λ n h. (omega (arith, h), (omega (arith, h), (omega (arith, h), tt)))) rows
-
-pub is_substituted-requires : goal.is_substituted-requires
-unfolding rule_subjects
-is_substituted-requires c =
-    let rows = c.requires in (
-      other_rows (λ n h. (omega (arith, h, c.child-b.ensures.below), (omega (arith, h), (omega (arith, h), tt))))
-          rows,
-      omega (arith, rows.below, rows.few, c.child-b.ensures.below),
-    )
-
-pub returns-then-is_node : goal.returns-then-is_node
-unfolding FollowsIn ◌⟨◌⟩
-returns-then-is_node c =
-    λ contexts G. decides_via (agrees c.child-b.ensures.value)
-    (decides_then
-    (c.is_node.ensures & c.is_node-2.ensures & c.is_node-3.ensures)
-    c.if-is_node.true
-    c.is_substituted.ensures)
-
-pub returns-else-is_node : goal.returns-else-is_node
-unfolding FollowsIn ◌⟨◌⟩
-returns-else-is_node c =
-    λ contexts G. decides_via (agrees c.child-b.ensures.value)
-    (decides_not
-    (c.is_node.ensures & c.is_node-2.ensures & c.is_node-3.ensures)
-    c.if-is_node.false)
+pub returns : goal.returns
+unfolding FollowsIn
+returns c = λ contexts G. decides_via congruence_22 (c.wt_app.ensures contexts G & c.is_node.ensures)

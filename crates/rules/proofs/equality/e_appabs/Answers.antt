@@ -6,12 +6,12 @@ use mathlib.Core.List.{[], ◌∷◌}
 use Rattle.terms.specs.Term.{Term, app, lam}
 use Rattle.terms.specs.Tag.{child}
 use Rattle.terms.specs.Substitution.{◌⟨◌⟩}
-use Rattle.terms.proofs.Tests.{decides_via, ◌&◌, decides_then, decides_not, other_rows}
+use Rattle.terms.proofs.Tests.{decides_via, ◌&◌, decides_then, decides_not}
 use Rattle.rules.specs.Judgment.{Context, typed, equal}
 use Rattle.rules.specs.Instance.{Instance}
 use Rattle.rules.specs.RuleChecks.{rule_subjects, FollowsIn}
 use Rattle.rules.proofs.EqualityLaws.{rule_30}
-use Rattle.rules.proofs.ContextTableAnswers.{rows_known, rows_of}
+use Rattle.rules.proofs.ContextTableAnswers.{rows_of}
 use native.Mathlib.Omega.{arith}
 use Rattle.rules.proofs.equality.e_appabs.Goals as goal
 
@@ -22,49 +22,12 @@ agrees : {G G₁ : Context} {c₁ c₂ c₃ p₁ p₃ q₁ q₃ f : Term} → f 
 unfolding child
 agrees k₁ = (λ h. rule_30.1 (refl, cc, cc, cc, cc), λ i. let t = rule_30.0 i in (((cc, cc), cc), (cc, cc)))
 
-pub child-f-requires : goal.child-f-requires
-unfolding rule_subjects
-child-f-requires c =
-    (other_rows (λ n h. (omega (arith, h), tt)) (rows_known c.requires), omega arith, omega arith)
-
 pub extends-requires : goal.extends-requires
 unfolding rule_subjects
 extends-requires c =
     let rows = c.requires in
     rows_of rows (omega (arith, rows.given.within), (omega (arith, rows.given.within), tt))
     (omega (arith, rows.below), tt)
-
-pub is_node-requires : goal.is_node-requires
-unfolding rule_subjects
-is_node-requires c =
-    let rows = c.requires in
-    other_rows (λ n h. (omega (arith, h), (omega (arith, h, c.child-f.ensures.below), (omega (arith, h), tt))))
-    (rows_known rows)
-
-pub is_node-requires-2 : goal.is_node-requires-2
-unfolding rule_subjects
-is_node-requires-2 c =
-    let rows = c.requires in
-    other_rows (λ n h. (omega (arith, h, c.child-f.ensures.below), (omega (arith, h), tt)))
-    (rows_known rows)
-
-pub is_substituted-requires : goal.is_substituted-requires
-unfolding rule_subjects
-is_substituted-requires c =
-    let rows = c.requires in (
-      other_rows (λ n h. (omega (arith, h), (omega (arith, h), (omega (arith, h), tt))))
-          (rows_known rows),
-      omega (arith, rows.below, rows.given.few_terms),
-    )
-
-pub is_substituted-requires-then-extends-is_node : goal.is_substituted-requires-then-extends-is_node
-unfolding rule_subjects
-is_substituted-requires-then-extends-is_node c =
-    let rows = c.requires in (
-      other_rows (λ n h. (omega (arith, h), (omega (arith, h), (omega (arith, h), tt))))
-          (rows_known rows),
-      omega (arith, rows.below, rows.given.few_terms),
-    )
 
 pub returns-then-extends-is_node : goal.returns-then-extends-is_node
 unfolding FollowsIn ◌⟨◌⟩

@@ -6,12 +6,11 @@ use mathlib.Core.List.{[], ◌∷◌}
 use Rattle.terms.specs.Term.{Term, first, second, sigma}
 use Rattle.terms.specs.Tag.{child}
 use Rattle.terms.specs.Substitution.{◌⟨◌⟩}
-use Rattle.terms.proofs.Tests.{decides_via, ◌&◌, decides_then, decides_not, other_rows}
+use Rattle.terms.proofs.Tests.{decides_via, ◌&◌, decides_then, decides_not}
 use Rattle.rules.specs.Judgment.{Context, equal}
 use Rattle.rules.specs.Instance.{Instance}
-use Rattle.rules.specs.RuleChecks.{rule_subjects, FollowsIn}
+use Rattle.rules.specs.RuleChecks.{FollowsIn}
 use Rattle.rules.proofs.EqualityLaws.{rule_24}
-use native.Mathlib.Omega.{arith}
 use Rattle.rules.proofs.equality.e_pairext.Goals as goal
 
 -- the tests together are the rule
@@ -24,46 +23,6 @@ agrees k₁ = (
   λ h. rule_24.1 (refl, refl, cc, cc, cc, cc, cc, cc),
   λ i. let t = rule_24.0 i in (((((cc, cc), cc), cc), cc), cc),
 )
-
-pub child-b-requires : goal.child-b-requires
-unfolding rule_subjects
-child-b-requires c = (other_rows (λ n h. (omega (arith, h), tt)) c.requires, omega arith, omega arith)
-
-pub is_node-requires : goal.is_node-requires
-unfolding rule_subjects
-is_node-requires c = other_rows (λ n h. (omega (arith, h), (omega (arith, h), tt))) c.requires
-
-pub is_node-requires-2 : goal.is_node-requires-2
-unfolding rule_subjects
-is_node-requires-2 c =
-    let rows = c.requires in
-    other_rows (λ n h. (omega (arith, h), (omega (arith, h), tt))) rows
-
-pub is_node-requires-3 : goal.is_node-requires-3
-unfolding rule_subjects
-is_node-requires-3 c =
-    let rows = c.requires in
-    other_rows (λ n h. (omega (arith, h), (omega (arith, h), tt))) rows
-
-pub is_node-requires-4 : goal.is_node-requires-4
-unfolding rule_subjects
-is_node-requires-4 c =
-    let rows = c.requires in
-    other_rows (λ n h. (omega (arith, h), (omega (arith, h), tt))) rows
-
-pub is_node-requires-5 : goal.is_node-requires-5
-unfolding rule_subjects
-is_node-requires-5 c =
-    let rows = c.requires in
-    other_rows (λ n h. (omega (arith, h), (omega (arith, h), (omega (arith, h, c.child-b.ensures.below), tt)))) rows
-
-pub is_substituted-requires : goal.is_substituted-requires
-unfolding rule_subjects
-is_substituted-requires c =
-    let rows = c.requires in (
-      other_rows (λ n h. (omega (arith, h, c.child-b.ensures.below), (omega (arith, h), (omega (arith, h), tt)))) rows,
-      omega (arith, rows.below, rows.few, c.child-b.ensures.below),
-    )
 
 pub returns-then-is_node : goal.returns-then-is_node
 unfolding FollowsIn ◌⟨◌⟩

@@ -1,11 +1,9 @@
--- Each arm is decided by its rule's own check; the last is never taken.
+-- Each arm is decided by its rule's own check.
 -- Assumes nothing.
-use native.Mathlib.Omega.{arith}
 use Rattle.rules.specs.RuleTable.{premise_count}
 use Rattle.rules.specs.Stated.{used_premises}
 use Rattle.rules.proofs.ContextTableAnswers.{rows_known}
 use Rattle.rules.proofs.ArmLaws.{by_arm, given_arm}
-use Rattle.rules.proofs.RangeLaws.{none_from}
 use Rattle.rules.proofs.instances.equality_instance.Goals as goal
 
 pub e_refl-requires : goal.e_refl-requires
@@ -153,8 +151,3 @@ returns-in-33 c = by_arm c.requires.line_in_tables c.requires.shaped c.in-33.is 
 pub returns-in-34 : goal.returns-in-34
 unfolding used_premises premise_count
 returns-in-34 c = by_arm c.requires.line_in_tables c.requires.shaped c.in-34.is c.e_indsuc.ensures
-
-pub returns-in_default : goal.returns-in_default
-returns-in_default c =
-    let range = c.requires.le_rule in
-    absurd (none_from 17 18 _ c.in_default.in_default-own.rest range.0 (omega (arith, range)))

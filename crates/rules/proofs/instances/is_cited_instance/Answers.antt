@@ -19,7 +19,6 @@ is_instance-requires c =
     let given = c.requires in
     let printed = (cited_line given.line_in_tables given.lt_rule).printed in
     record {
-      table_value = given.table_value;
       line_in_tables = printed;
       rule_bound = omega (arith, printed.known);
     }

@@ -2,23 +2,16 @@
 -- Assumes nothing.
 use mathlib.Core.Path.{◌≡◌, ◌∙◌, sym}
 use mathlib.Core.Logic.{⊎_elim}
-use Prim.Native.Nat.{ℕ, ◌<◌}
 use native.Mathlib.Omega.{arith}
 use Rattle.rules.proofs.TableLaws.{range_0, range_1, range_2, range_3, range_4, range_5, range_6, form_small}
-use Rattle.rules.specs.RuleTable.{IsRule, form_of}
+use Rattle.rules.specs.RuleTable.{form_of}
 use Rattle.rules.proofs.ArmLaws.{shaped_given, wrong_shape, given_empty, by_group}
-use Rattle.rules.proofs.RangeLaws.{NoneFrom, none_from}
 use Rattle.rules.proofs.instances.is_instance.Goals as goal
-
--- a form that is none of the first six is the last
-last_form : (f rule : ℕ) → IsRule rule → f ≡ form_of rule → NoneFrom 0 6 f → form_of rule ≡ 6
-last_form f rule known e none =
-    let behind : f < 6 → ⊥ = none_from 0 6 f none (omega arith) in omega (arith, form_small rule known, e, behind)
 
 pub shaped-requires : goal.shaped-requires
 shaped-requires c =
     let line = c.requires.line_in_tables in
-    record { table_value = c.requires.table_value; rule = line.known; contexts_in_table = shaped_given line }
+    record { rule = line.known; contexts_in_table = shaped_given line }
 
 pub wellformed_instance-requires : goal.wellformed_instance-requires
 wellformed_instance-requires c =
@@ -60,8 +53,7 @@ neutral_instance-requires c =
 pub step_instance-requires : goal.step_instance-requires
 step_instance-requires c =
     let line = c.requires.line_in_tables in
-    let form = last_form _ _ line.known c.conclusion_form-form.ensures c.in_default.in_default-own.rest in
-    let range = (range_6 _ line.known).0 form in
+    let range = (range_6 _ line.known).0 (omega (arith, form_small _ line.known, c.conclusion_form-form.ensures)) in
     record { subjects_in_table = given_empty line (c.shaped.ensures.0 c.if-shaped.true); le_rule = range }
 
 pub returns-in-4 : goal.returns-in-4
@@ -81,7 +73,7 @@ returns-in-5 c =
 pub returns-in_default : goal.returns-in_default
 returns-in_default c =
     let line = c.requires.line_in_tables in
-    let form = last_form _ _ line.known c.conclusion_form-form.ensures c.in_default.in_default-own.rest in
+    let form : form_of c.args.rule ≡ 6 = omega (arith, form_small _ line.known, c.conclusion_form-form.ensures) in
     by_group line (c.shaped.ensures.0 c.if-shaped.true) (omega (arith, form))
     c.step_instance.ensures
 

@@ -1,12 +1,10 @@
--- Each arm is decided by its rule's own check; the last is never taken.
+-- Each arm is decided by its rule's own check.
 -- Assumes nothing.
-use native.Mathlib.Omega.{arith}
 use Rattle.rules.specs.RuleTable.{premise_count}
 use Rattle.rules.specs.Stated.{used_premises}
 use Rattle.rules.specs.RuleChecks.{rule_subjects}
 use Rattle.rules.proofs.ContextTableAnswers.{rows_known}
 use Rattle.rules.proofs.ArmLaws.{by_arm, given_arm}
-use Rattle.rules.proofs.RangeLaws.{none_from}
 use Rattle.rules.proofs.instances.subtyping_instance.Goals as goal
 
 pub l_trans-requires : goal.l_trans-requires
@@ -80,8 +78,3 @@ returns-in-42 c = by_arm c.requires.line_in_tables c.requires.shaped c.in-42.is 
 pub returns-in-43 : goal.returns-in-43
 unfolding used_premises premise_count
 returns-in-43 c = by_arm c.requires.line_in_tables c.requires.shaped c.in-43.is (c.l_sigproj2.ensures _ _)
-
-pub returns-in_default : goal.returns-in_default
-returns-in_default c =
-    let range = c.requires.le_rule in
-    absurd (none_from 35 9 _ c.in_default.in_default-own.rest range.0 (omega (arith, range.1)))

@@ -1,12 +1,10 @@
--- Each arm is decided by its rule's own check; the last is never taken.
+-- Each arm is decided by its rule's own check.
 -- Assumes nothing.
-use native.Mathlib.Omega.{arith}
 use Rattle.rules.specs.RuleTable.{premise_count}
 use Rattle.rules.specs.Stated.{used_premises}
 use Rattle.rules.specs.RuleChecks.{rule_subjects}
 use Rattle.rules.proofs.ContextTableAnswers.{rows_known, rows_of}
 use Rattle.rules.proofs.ArmLaws.{by_arm, given_arm}
-use Rattle.rules.proofs.RangeLaws.{none_from}
 use Rattle.rules.proofs.instances.typing_instance.Goals as goal
 
 pub wt_var-requires : goal.wt_var-requires
@@ -122,8 +120,3 @@ returns-in-15 c = by_arm c.requires.line_in_tables c.requires.shaped c.in-15.is 
 pub returns-in-16 : goal.returns-in-16
 unfolding used_premises premise_count
 returns-in-16 c = by_arm c.requires.line_in_tables c.requires.shaped c.in-16.is (c.wt_conv.ensures _ _)
-
-pub returns-in_default : goal.returns-in_default
-returns-in_default c =
-    let range = c.requires.le_rule in
-    absurd (none_from 3 14 _ c.in_default.in_default-own.rest range.0 (omega (arith, range)))

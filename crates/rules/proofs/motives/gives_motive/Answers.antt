@@ -3,26 +3,15 @@ use native.Mathlib.Omega.{arith}
 use Rattle.terms.proofs.Tests.{says_no, decides_via, ◌&◌}
 use Rattle.rules.specs.Subjects.{used_subjects}
 use Rattle.rules.proofs.ArmLaws.{subjects_below}
-use Rattle.rules.proofs.ContextTableAnswers.{other_contexts, term_rows}
+use Rattle.rules.proofs.ContextTableAnswers.{term_rows}
 use Rattle.rules.proofs.MotiveLaws.{gives_parts, gives_form}
 use Rattle.rules.proofs.motives.gives_motive.Goals as goal
 
-pub child-motive-requires : goal.child-motive-requires
+pub is_universe-requires : goal.is_universe-requires
 unfolding used_subjects
-child-motive-requires c =
-    let given = c.requires in
-    let in_table = c.requires.judgments_in_tables in (
-      term_rows in_table.given ((subjects_below _ _ 2 _ in_table.numbered.0 given.form_value).0, tt),
-      omega arith,
-      omega arith,
-    )
-
-pub extends_nat-requires : goal.extends_nat-requires
-extends_nat-requires c =
+is_universe-requires c =
     let in_table = c.requires.judgments_in_tables in
-    let numbered = c.requires.judgments_in_tables.numbered in
-    other_contexts in_table.given
-    (omega (arith, numbered.1.0.within), (omega (arith, numbered.0.within), tt))
+    term_rows in_table.given ((subjects_below _ _ 1 _ in_table.numbered.1.0 (omega arith)).1.0, tt)
 
 pub same_term-requires : goal.same_term-requires
 unfolding used_subjects
@@ -35,11 +24,15 @@ same_term-requires c =
       (omega (arith, subject, c.child-motive.ensures.below), tt),
     )
 
-pub is_universe-requires : goal.is_universe-requires
+pub child-motive-requires : goal.child-motive-requires
 unfolding used_subjects
-is_universe-requires c =
-    let in_table = c.requires.judgments_in_tables in
-    term_rows in_table.given ((subjects_below _ _ 1 _ in_table.numbered.1.0 (omega arith)).1.0, tt)
+child-motive-requires c =
+    let given = c.requires in
+    let in_table = c.requires.judgments_in_tables in (
+      term_rows in_table.given ((subjects_below _ _ 2 _ in_table.numbered.0 given.form_value).0, tt),
+      omega arith,
+      omega arith,
+    )
 
 pub returns-then-p-eq1 : goal.returns-then-p-eq1
 returns-then-p-eq1 c =

@@ -3,16 +3,15 @@
 use mathlib.Core.Path.{◌≡◌}
 use mathlib.Core.Logic.{◌↔◌}
 use mathlib.Core.List.{[], ◌∷◌}
-use native.Mathlib.Omega.{arith}
 use Rattle.terms.specs.Term.{Term, ind, succ}
 use Rattle.terms.specs.Tag.{child}
 use Rattle.terms.specs.Substitution.{on_both}
-use Rattle.terms.proofs.Tests.{decides_via, decides_then, decides_not, other_rows}
+use Rattle.terms.proofs.Tests.{decides_via, decides_then, decides_not}
 use Rattle.rules.specs.Judgment.{normal, steps}
 use Rattle.rules.specs.RuleTable.{premise_count}
 use Rattle.rules.specs.Instance.{Instance}
 use Rattle.rules.specs.Stated.{used_premises}
-use Rattle.rules.specs.RuleChecks.{rule_subjects, FollowsIn}
+use Rattle.rules.specs.RuleChecks.{FollowsIn}
 use Rattle.rules.proofs.NormalisationLaws.{rule_66}
 use Rattle.rules.proofs.normalisation.n_indsuc.Goals as goal
 
@@ -22,39 +21,6 @@ agrees : {c₁ c₂ p₁ q₁ r₁ s₁ z : Term} → z ≡ child c₁ 2
     ↔ Instance 66 (normal [] p₁ ∷ normal [] q₁ ∷ normal [] r₁ ∷ normal [] s₁ ∷ []) (steps [] c₁ c₂)
 unfolding child
 agrees k = (λ h. rule_66.1 (cc, cc), λ i. let t = rule_66.0 i in ((cc, cc), cc))
-
-pub child-z-requires : goal.child-z-requires
-unfolding used_premises premise_count rule_subjects
-child-z-requires c = (other_rows (λ n h. (omega (arith, h), tt)) c.requires.rows, omega arith, omega arith)
-
-pub are_nodes-requires : goal.are_nodes-requires
-unfolding used_premises premise_count rule_subjects
-are_nodes-requires c =
-    let rows = c.requires.rows in
-    let below = c.child-z.ensures.below in record {
-      rows_in_table = other_rows
-          (λ n h.
-          (omega (arith, h), (omega (arith, h), (omega (arith, h, below), (omega (arith, h), (omega (arith, h), tt))))))
-          rows;
-      rows_in_table_2 = other_rows (λ n h. (omega (arith, h, below), (omega (arith, h), tt))) rows;
-    }
-
-pub is_substituted-requires : goal.is_substituted-requires
-unfolding used_premises premise_count rule_subjects
-is_substituted-requires c =
-    let rows = c.requires.rows in
-    let below = c.child-z.ensures.below in (
-      other_rows
-          (λ n h. (
-            omega (arith, h),
-            (
-              omega (arith, h),
-              (omega (arith, h), (omega (arith, h, below), (omega (arith, h), (omega (arith, h), tt)))),
-            ),
-          ))
-          rows,
-      omega (arith, rows.below, rows.few),
-    )
 
 pub returns-then-are_nodes : goal.returns-then-are_nodes
 unfolding used_premises premise_count FollowsIn on_both

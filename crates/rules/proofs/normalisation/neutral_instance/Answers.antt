@@ -1,40 +1,14 @@
--- Each arm is decided by its rule's law; the last is never taken.
+-- Each arm is decided by its rule's law.
 -- Assumes nothing.
 use mathlib.Core.Path.{sym, ◌∙◌, ap}
-use native.Mathlib.Omega.{arith}
 use Rattle.terms.specs.Term.{var}
 use Rattle.terms.proofs.Tests.{decides_via}
 use Rattle.rules.specs.RuleTable.{premise_count}
 use Rattle.rules.specs.Stated.{used_premises}
-use Rattle.rules.specs.RuleChecks.{rule_subjects, FollowsIn}
-use Rattle.rules.proofs.ArmLaws.{arm_rows, by_law}
-use Rattle.rules.proofs.RangeLaws.{none_from}
+use Rattle.rules.specs.RuleChecks.{FollowsIn}
+use Rattle.rules.proofs.ArmLaws.{by_law}
 use Rattle.rules.proofs.NormalisationLaws.{rule_54, rule_55, rule_56, rule_57, rule_58}
 use Rattle.rules.proofs.normalisation.neutral_instance.Goals as goal
-
-pub number-requires : goal.number-requires
-unfolding used_premises premise_count rule_subjects
-number-requires c = arm_rows c.requires.subjects_in_table c.in-54.is
-
-pub is_node-requires : goal.is_node-requires
-unfolding used_premises premise_count rule_subjects
-is_node-requires c = arm_rows c.requires.subjects_in_table c.in-54.is
-
-pub is_node-requires-in-55 : goal.is_node-requires-in-55
-unfolding used_premises premise_count rule_subjects
-is_node-requires-in-55 c = arm_rows c.requires.subjects_in_table c.in-55.is
-
-pub is_node-requires-in-56 : goal.is_node-requires-in-56
-unfolding used_premises premise_count rule_subjects
-is_node-requires-in-56 c = arm_rows c.requires.subjects_in_table c.in-56.is
-
-pub is_node-requires-in-57 : goal.is_node-requires-in-57
-unfolding used_premises premise_count rule_subjects
-is_node-requires-in-57 c = arm_rows c.requires.subjects_in_table c.in-57.is
-
-pub is_node-requires-in-58 : goal.is_node-requires-in-58
-unfolding used_premises premise_count rule_subjects
-is_node-requires-in-58 c = arm_rows c.requires.subjects_in_table c.in-58.is
 
 pub returns-in-54 : goal.returns-in-54
 unfolding used_premises premise_count FollowsIn
@@ -62,8 +36,3 @@ pub returns-in-58 : goal.returns-in-58
 unfolding used_premises premise_count FollowsIn
 returns-in-58 c =
     by_law c.requires.subjects_in_table c.in-58.is (λ contexts. rule_58) c.is_node-in-58.ensures
-
-pub returns-in_default : goal.returns-in_default
-returns-in_default c =
-    let range = c.requires.le_rule in
-    absurd (none_from 54 5 _ c.in_default.in_default-own.rest range.0 (omega (arith, range)))

@@ -3,12 +3,11 @@
 use mathlib.Core.Path.{◌≡◌, refl}
 use mathlib.Core.Logic.{◌↔◌}
 use mathlib.Core.List.{[], ◌∷◌}
-use native.Mathlib.Omega.{arith}
 use Rattle.terms.specs.Term.{Term}
-use Rattle.terms.proofs.Tests.{decides_via, ◌&◌, other_rows}
+use Rattle.terms.proofs.Tests.{decides_via, ◌&◌}
 use Rattle.rules.specs.Judgment.{Context, equal, sub}
 use Rattle.rules.specs.Instance.{Instance}
-use Rattle.rules.specs.RuleChecks.{rule_subjects, FollowsIn}
+use Rattle.rules.specs.RuleChecks.{FollowsIn}
 use Rattle.rules.specs.Conditions.{IsUniverse}
 use Rattle.rules.proofs.SubtypingLaws.{rule_36}
 use Rattle.rules.proofs.subtyping.l_eq.Goals as goal
@@ -18,20 +17,6 @@ agrees : {G : Context} {c₁ c₂ p₁ p₂ p₃ : Term}
     → (((c₁ ≡ p₁) × (c₂ ≡ p₂)) × IsUniverse p₃)
     ↔ Instance 36 (equal G p₁ p₂ p₃ ∷ []) (sub G c₁ c₂)
 agrees = (λ h. rule_36.1 (refl, cc, cc, h.1), λ i. let t = rule_36.0 i in ((cc, cc), t.3))
-
-pub same_term-requires : goal.same_term-requires
-unfolding rule_subjects
-same_term-requires c = other_rows (λ n h. (omega (arith, h), (omega (arith, h), tt))) c.requires
-
-pub same_term-requires-2 : goal.same_term-requires-2
-unfolding rule_subjects
-same_term-requires-2 c = other_rows (λ n h. (omega (arith, h), (omega (arith, h), tt))) c.requires
-
-pub is_universe-requires : goal.is_universe-requires
-unfolding rule_subjects
-is_universe-requires c =
-    let rows = c.requires in
-    other_rows (λ n h. (omega (arith, h), tt)) rows
 
 pub returns : goal.returns
 unfolding FollowsIn

@@ -5,12 +5,12 @@ use mathlib.Core.Logic.{◌↔◌, ◌⊎◌}
 use mathlib.Core.List.{[], ◌∷◌}
 use native.Mathlib.Omega.{arith}
 use Rattle.terms.specs.Term.{Term, pi}
-use Rattle.terms.proofs.Tests.{decides_via, ◌&◌, decides_either, other_rows}
+use Rattle.terms.proofs.Tests.{decides_via, ◌&◌, decides_either}
 use Rattle.rules.specs.Judgment.{Context, sub}
 use Rattle.rules.specs.Instance.{Instance}
 use Rattle.rules.specs.RuleChecks.{rule_subjects, FollowsIn}
 use Rattle.rules.proofs.SubtypingLaws.{rule_38}
-use Rattle.rules.proofs.ContextTableAnswers.{rows_known, rows_of}
+use Rattle.rules.proofs.ContextTableAnswers.{rows_of}
 use Rattle.rules.proofs.subtyping.l_pi.Goals as goal
 
 -- the tests together are the rule
@@ -19,29 +19,17 @@ agrees : {G G₁ : Context} {c₁ c₂ p₁ p₂ q₁ q₂ : Term}
     ↔ Instance 38 (sub G p₁ p₂ ∷ sub G₁ q₁ q₂ ∷ []) (sub G c₁ c₂)
 agrees = (λ h. rule_38.1 (refl, h.0.0, h.0.1, h.1), λ i. let t = rule_38.0 i in ((t.1, t.2), t.3))
 
-pub extends-requires : goal.extends-requires
-unfolding rule_subjects
-extends-requires c =
-    let rows = c.requires in rows_of rows
-    (rows.given.within.1.1.0, (rows.given.within.0, tt)) (omega (arith, rows.below), tt)
-
 pub extends-requires-2 : goal.extends-requires-2
 unfolding rule_subjects
 extends-requires-2 c =
     let rows = c.requires in rows_of rows
     (rows.given.within.1.1.0, (rows.given.within.0, tt)) (omega (arith, rows.below), tt)
 
-pub is_node-requires : goal.is_node-requires
+pub extends-requires : goal.extends-requires
 unfolding rule_subjects
-is_node-requires c =
-    let rows = c.requires in
-    other_rows (λ n h. (omega (arith, h), (omega (arith, h), (omega (arith, h), tt)))) (rows_known rows)
-
-pub is_node-requires-2 : goal.is_node-requires-2
-unfolding rule_subjects
-is_node-requires-2 c =
-    let rows = c.requires in
-    other_rows (λ n h. (omega (arith, h), (omega (arith, h), (omega (arith, h), tt)))) (rows_known rows)
+extends-requires c =
+    let rows = c.requires in rows_of rows
+    (rows.given.within.1.1.0, (rows.given.within.0, tt)) (omega (arith, rows.below), tt)
 
 pub returns : goal.returns
 unfolding FollowsIn

@@ -5,12 +5,11 @@ use mathlib.Core.Logic.{◌↔◌}
 use mathlib.Core.List.{[], ◌∷◌}
 use Rattle.terms.specs.Term.{Term, pi}
 use Rattle.terms.specs.Tag.{child}
-use Rattle.terms.proofs.Tests.{decides_via, ◌&◌, other_rows}
+use Rattle.terms.proofs.Tests.{decides_via, ◌&◌}
 use Rattle.rules.specs.Judgment.{Context, sub}
 use Rattle.rules.specs.Instance.{Instance}
-use Rattle.rules.specs.RuleChecks.{rule_subjects, FollowsIn}
+use Rattle.rules.specs.RuleChecks.{FollowsIn}
 use Rattle.rules.proofs.SubtypingLaws.{rule_40}
-use native.Mathlib.Omega.{arith}
 use Rattle.rules.proofs.subtyping.l_piproj1.Goals as goal
 
 -- the tests together are the rule
@@ -19,27 +18,6 @@ agrees : {G : Context} {c₁ c₂ p₁ p₂ b d : Term} → b ≡ child p₁ 2 �
     ↔ Instance 40 (sub G p₁ p₂ ∷ []) (sub G c₁ c₂)
 unfolding child
 agrees k₁ k₂ = (λ h. rule_40.1 (refl, cc, cc), λ i. let t = rule_40.0 i in (cc, cc))
-
-pub child-b-requires : goal.child-b-requires
-unfolding rule_subjects
-child-b-requires c = (other_rows (λ n h. (omega (arith, h), tt)) c.requires, omega arith, omega arith)
-
-pub child-d-requires : goal.child-d-requires
-unfolding rule_subjects
-child-d-requires c = (other_rows (λ n h. (omega (arith, h), tt)) c.requires, omega arith, omega arith)
-
-pub is_node-requires : goal.is_node-requires
-unfolding rule_subjects
-is_node-requires c =
-    let rows = c.requires in
-    other_rows (λ n h. (omega (arith, h), (omega (arith, h), (omega (arith, h, c.child-b.ensures.below), tt))))
-    rows
-
-pub is_node-requires-2 : goal.is_node-requires-2
-unfolding rule_subjects
-is_node-requires-2 c =
-    let rows = c.requires in
-    other_rows (λ n h. (omega (arith, h), (omega (arith, h), (omega (arith, h, c.child-d.ensures.below), tt)))) rows
 
 pub returns : goal.returns
 unfolding FollowsIn

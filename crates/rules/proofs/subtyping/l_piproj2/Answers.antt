@@ -6,12 +6,11 @@ use mathlib.Core.List.{[], ◌∷◌}
 use Rattle.terms.specs.Term.{Term, pi}
 use Rattle.terms.specs.Tag.{child}
 use Rattle.terms.specs.Substitution.{◌⟨◌⟩}
-use Rattle.terms.proofs.Tests.{decides_via, ◌&◌, decides_then, decides_not, other_rows}
+use Rattle.terms.proofs.Tests.{decides_via, ◌&◌, decides_then, decides_not}
 use Rattle.rules.specs.Judgment.{Context, equal, sub}
 use Rattle.rules.specs.Instance.{Instance}
-use Rattle.rules.specs.RuleChecks.{rule_subjects, FollowsIn}
+use Rattle.rules.specs.RuleChecks.{FollowsIn}
 use Rattle.rules.proofs.SubtypingLaws.{rule_41}
-use native.Mathlib.Omega.{arith}
 use Rattle.rules.proofs.subtyping.l_piproj2.Goals as goal
 
 -- the tests together are the rule
@@ -20,54 +19,6 @@ agrees : {G : Context} {c₁ c₂ p₁ p₂ q₁ q₂ q₃ a b d : Term} → a �
     ↔ Instance 41 (sub G p₁ p₂ ∷ equal G q₁ q₂ q₃ ∷ []) (sub G c₁ c₂)
 unfolding child
 agrees k₁ k₂ k₃ = (λ h. rule_41.1 (refl, refl, cc, cc, cc, cc), λ i. let t = rule_41.0 i in ((cc, cc), (cc, cc)))
-
-pub child-a-requires : goal.child-a-requires
-unfolding rule_subjects
-child-a-requires c = (other_rows (λ n h. (omega (arith, h), tt)) c.requires, omega arith, omega arith)
-
-pub child-b-requires : goal.child-b-requires
-unfolding rule_subjects
-child-b-requires c = (other_rows (λ n h. (omega (arith, h), tt)) c.requires, omega arith, omega arith)
-
-pub child-d-requires : goal.child-d-requires
-unfolding rule_subjects
-child-d-requires c =
-    let rows = c.requires in
-    (other_rows (λ n h. (omega (arith, h), tt)) rows, omega arith, omega arith)
-
-pub is_node-requires : goal.is_node-requires
-unfolding rule_subjects
-is_node-requires c =
-    let rows = c.requires in
-    other_rows
-    (λ n h. (
-      omega (arith, h),
-      (omega (arith, h, c.child-a.ensures.below), (omega (arith, h, c.child-b.ensures.below), tt)),
-    )) rows
-
-pub is_node-requires-2 : goal.is_node-requires-2
-unfolding rule_subjects
-is_node-requires-2 c =
-    let rows = c.requires in
-    other_rows (λ n h. (omega (arith, h), (omega (arith, h), (omega (arith, h, c.child-d.ensures.below), tt)))) rows
-
-pub is_substituted-requires : goal.is_substituted-requires
-unfolding rule_subjects
-is_substituted-requires c =
-    let rows = c.requires in (
-      other_rows (λ n h. (omega (arith, h, c.child-b.ensures.below), (omega (arith, h), (omega (arith, h), tt))))
-          rows,
-      omega (arith, rows.below, rows.few, c.child-b.ensures.below),
-    )
-
-pub is_substituted-requires-then-is_node : goal.is_substituted-requires-then-is_node
-unfolding rule_subjects
-is_substituted-requires-then-is_node c =
-    let rows = c.requires in (
-      other_rows (λ n h. (omega (arith, h, c.child-d.ensures.below), (omega (arith, h), (omega (arith, h), tt))))
-          rows,
-      omega (arith, rows.below, rows.few, c.child-d.ensures.below),
-    )
 
 pub returns-then-is_node : goal.returns-then-is_node
 unfolding FollowsIn ◌⟨◌⟩

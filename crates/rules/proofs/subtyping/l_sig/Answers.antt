@@ -5,12 +5,12 @@ use mathlib.Core.Logic.{◌↔◌}
 use mathlib.Core.List.{[], ◌∷◌}
 use native.Mathlib.Omega.{arith}
 use Rattle.terms.specs.Term.{Term, sigma}
-use Rattle.terms.proofs.Tests.{decides_via, ◌&◌, other_rows}
+use Rattle.terms.proofs.Tests.{decides_via, ◌&◌}
 use Rattle.rules.specs.Judgment.{Context, sub}
 use Rattle.rules.specs.Instance.{Instance}
 use Rattle.rules.specs.RuleChecks.{rule_subjects, FollowsIn}
 use Rattle.rules.proofs.SubtypingLaws.{rule_39}
-use Rattle.rules.proofs.ContextTableAnswers.{rows_known, rows_of}
+use Rattle.rules.proofs.ContextTableAnswers.{rows_of}
 use Rattle.rules.proofs.subtyping.l_sig.Goals as goal
 
 -- the tests together are the rule
@@ -25,18 +25,6 @@ extends-requires c =
     let rows = c.requires in
     rows_of rows (omega (arith, rows.given.within), (omega (arith, rows.given.within), tt))
     (omega (arith, rows.below), tt)
-
-pub is_node-requires : goal.is_node-requires
-unfolding rule_subjects
-is_node-requires c =
-    let rows = c.requires in
-    other_rows (λ n h. (omega (arith, h), (omega (arith, h), (omega (arith, h), tt)))) (rows_known rows)
-
-pub is_node-requires-2 : goal.is_node-requires-2
-unfolding rule_subjects
-is_node-requires-2 c =
-    let rows = c.requires in
-    other_rows (λ n h. (omega (arith, h), (omega (arith, h), (omega (arith, h), tt)))) (rows_known rows)
 
 pub returns : goal.returns
 unfolding FollowsIn

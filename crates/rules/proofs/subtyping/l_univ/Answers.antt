@@ -3,12 +3,11 @@
 use mathlib.Core.Path.{refl}
 use mathlib.Core.Logic.{◌↔◌}
 use mathlib.Core.List.{[], ◌∷◌}
-use native.Mathlib.Omega.{arith}
 use Rattle.terms.specs.Term.{Term}
-use Rattle.terms.proofs.Tests.{decides_via, other_rows}
+use Rattle.terms.proofs.Tests.{decides_via}
 use Rattle.rules.specs.Judgment.{Context, wf, sub}
 use Rattle.rules.specs.Instance.{Instance}
-use Rattle.rules.specs.RuleChecks.{rule_subjects, FollowsIn}
+use Rattle.rules.specs.RuleChecks.{FollowsIn}
 use Rattle.rules.specs.Conditions.{UniversesRise}
 use Rattle.rules.proofs.SubtypingLaws.{rule_37}
 use Rattle.rules.proofs.subtyping.l_univ.Goals as goal
@@ -17,10 +16,6 @@ use Rattle.rules.proofs.subtyping.l_univ.Goals as goal
 agrees : {G : Context} {c₁ c₂ : Term} → UniversesRise c₁ c₂
     ↔ Instance 37 (wf G ∷ []) (sub G c₁ c₂)
 agrees = (λ h. rule_37.1 (refl, h), λ i. let t = rule_37.0 i in t.1)
-
-pub universes_rise-requires : goal.universes_rise-requires
-unfolding rule_subjects
-universes_rise-requires c = other_rows (λ n h. (omega (arith, h), (omega (arith, h), tt))) c.requires
 
 pub returns : goal.returns
 unfolding FollowsIn

@@ -2,6 +2,6 @@ use mathlib.Core.Path.{refl}
 use Rattle.rules.specs.RuleTable.{rule_table}
 use Rattle.rules.proofs.table.rule_table.Goals as goal
 
-pub returns : goal.returns
+pub invariant_of-result : goal.invariant_of-result
 unfolding rule_table
-returns c = refl
+invariant_of-result c = record { is_table = refl }

@@ -5,12 +5,12 @@ use mathlib.Core.Logic.{◌↔◌}
 use mathlib.Core.List.{[], ◌∷◌}
 use Rattle.terms.specs.Term.{Term, lam, pi}
 use Rattle.terms.specs.Tag.{child}
-use Rattle.terms.proofs.Tests.{decides_via, ◌&◌, other_rows}
+use Rattle.terms.proofs.Tests.{decides_via, ◌&◌}
 use Rattle.rules.specs.Judgment.{Context, typed}
 use Rattle.rules.specs.Instance.{Instance}
 use Rattle.rules.specs.RuleChecks.{rule_subjects, FollowsIn}
 use Rattle.rules.proofs.TypingLaws.{rule_5}
-use Rattle.rules.proofs.ContextTableAnswers.{rows_known, rows_of}
+use Rattle.rules.proofs.ContextTableAnswers.{rows_of}
 use native.Mathlib.Omega.{arith}
 use Rattle.rules.proofs.typing.wt_abs.Goals as goal
 
@@ -21,31 +21,12 @@ agrees : {G G₀ : Context} {c₁ c₃ p₁ p₃ a : Term} → a ≡ child c₃ 
 unfolding child
 agrees k₁ = (λ h. rule_5.1 (cc, cc, cc), λ i. let t = rule_5.0 i in ((cc, cc), cc))
 
-pub child-a-requires : goal.child-a-requires
-unfolding rule_subjects
-child-a-requires c =
-    (other_rows (λ n h. (omega (arith, h), tt)) (rows_known c.requires), omega arith, omega arith)
-
 pub extends-requires : goal.extends-requires
 unfolding rule_subjects
 extends-requires c =
     let rows = c.requires in
     rows_of rows (omega (arith, rows.given.within), (omega (arith, rows.given.within), tt))
     (omega (arith, rows.below, c.child-a.ensures.below), tt)
-
-pub is_node-requires : goal.is_node-requires
-unfolding rule_subjects
-is_node-requires c =
-    let rows = c.requires in
-    other_rows (λ n h. (omega (arith, h), (omega (arith, h), tt))) (rows_known rows)
-
-pub is_node-requires-2 : goal.is_node-requires-2
-unfolding rule_subjects
-is_node-requires-2 c =
-    let rows = c.requires in
-    other_rows
-    (λ n h. (omega (arith, h), (omega (arith, h, c.child-a.ensures.below), (omega (arith, h), tt))))
-    (rows_known rows)
 
 pub returns : goal.returns
 unfolding FollowsIn

@@ -6,12 +6,11 @@ use mathlib.Core.List.{[], ◌∷◌}
 use Rattle.terms.specs.Term.{Term, app, pi}
 use Rattle.terms.specs.Tag.{child}
 use Rattle.terms.specs.Substitution.{◌⟨◌⟩}
-use Rattle.terms.proofs.Tests.{decides_via, ◌&◌, decides_then, decides_not, other_rows}
+use Rattle.terms.proofs.Tests.{decides_via, ◌&◌, decides_then, decides_not}
 use Rattle.rules.specs.Judgment.{Context, typed}
 use Rattle.rules.specs.Instance.{Instance}
-use Rattle.rules.specs.RuleChecks.{rule_subjects, FollowsIn}
+use Rattle.rules.specs.RuleChecks.{FollowsIn}
 use Rattle.rules.proofs.TypingLaws.{rule_6}
-use native.Mathlib.Omega.{arith}
 use Rattle.rules.proofs.typing.wt_app.Goals as goal
 
 -- the tests together are the rule
@@ -20,30 +19,6 @@ agrees : {G : Context} {c₁ c₃ p₁ p₃ q₁ q₃ b : Term} → b ≡ child 
     ↔ Instance 6 (typed G p₁ p₃ ∷ typed G q₁ q₃ ∷ []) (typed G c₁ c₃)
 unfolding child
 agrees k₁ = (λ h. rule_6.1 (refl, refl, cc, cc, cc), λ i. let t = rule_6.0 i in ((cc, cc), cc))
-
-pub child-b-requires : goal.child-b-requires
-unfolding rule_subjects
-child-b-requires c = (other_rows (λ n h. (omega (arith, h), tt)) c.requires, omega arith, omega arith)
-
-pub is_node-requires : goal.is_node-requires
-unfolding rule_subjects
-is_node-requires c =
-    other_rows (λ n h. (omega (arith, h), (omega (arith, h), (omega (arith, h, c.child-b.ensures.below), tt))))
-    c.requires
-
-pub is_node-requires-2 : goal.is_node-requires-2
-unfolding rule_subjects
-is_node-requires-2 c =
-    let rows = c.requires in
-    other_rows (λ n h. (omega (arith, h), (omega (arith, h), (omega (arith, h), tt)))) rows
-
-pub is_substituted-requires : goal.is_substituted-requires
-unfolding rule_subjects
-is_substituted-requires c =
-    let rows = c.requires in (
-      other_rows (λ n h. (omega (arith, h, c.child-b.ensures.below), (omega (arith, h), (omega (arith, h), tt)))) rows,
-      omega (arith, rows.below, rows.few, c.child-b.ensures.below),
-    )
 
 pub returns-then-is_node : goal.returns-then-is_node
 unfolding FollowsIn ◌⟨◌⟩

@@ -3,12 +3,11 @@
 use mathlib.Core.Path.{◌≡◌, refl}
 use mathlib.Core.Logic.{◌↔◌}
 use mathlib.Core.List.{[], ◌∷◌}
-use native.Mathlib.Omega.{arith}
 use Rattle.terms.specs.Term.{Term, nat}
-use Rattle.terms.proofs.Tests.{decides_via, ◌&◌, other_rows}
+use Rattle.terms.proofs.Tests.{decides_via, ◌&◌}
 use Rattle.rules.specs.Judgment.{Context, wf, typed}
 use Rattle.rules.specs.Instance.{Instance}
-use Rattle.rules.specs.RuleChecks.{rule_subjects, FollowsIn}
+use Rattle.rules.specs.RuleChecks.{FollowsIn}
 use Rattle.rules.specs.Conditions.{IsUniverse}
 use Rattle.rules.proofs.TypingLaws.{rule_12}
 use Rattle.rules.proofs.typing.wt_nat.Goals as goal
@@ -18,14 +17,6 @@ agrees : {G : Context} {c₁ c₃ : Term}
     → ((c₁ ≡ nat) × IsUniverse c₃)
     ↔ Instance 12 (wf G ∷ []) (typed G c₁ c₃)
 agrees = (λ h. rule_12.1 (refl, cc, h.1), λ i. let t = rule_12.0 i in (cc, t.2))
-
-pub is_node-requires : goal.is_node-requires
-unfolding rule_subjects
-is_node-requires c = other_rows (λ n h. (omega (arith, h), tt)) c.requires
-
-pub is_universe-requires : goal.is_universe-requires
-unfolding rule_subjects
-is_universe-requires c = other_rows (λ n h. (omega (arith, h), tt)) c.requires
 
 pub returns : goal.returns
 unfolding FollowsIn

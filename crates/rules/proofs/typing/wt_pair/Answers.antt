@@ -6,13 +6,12 @@ use mathlib.Core.List.{[], ◌∷◌}
 use Rattle.terms.specs.Term.{Term, pair, sigma}
 use Rattle.terms.specs.Tag.{child}
 use Rattle.terms.specs.Substitution.{◌⟨◌⟩}
-use Rattle.terms.proofs.Tests.{decides_via, ◌&◌, decides_then, decides_not, other_rows}
+use Rattle.terms.proofs.Tests.{decides_via, ◌&◌, decides_then, decides_not}
 use Rattle.rules.specs.Judgment.{Context, typed}
 use Rattle.rules.specs.Instance.{Instance}
-use Rattle.rules.specs.RuleChecks.{rule_subjects, FollowsIn}
+use Rattle.rules.specs.RuleChecks.{FollowsIn}
 use Rattle.rules.specs.Conditions.{IsUniverse}
 use Rattle.rules.proofs.TypingLaws.{rule_9}
-use native.Mathlib.Omega.{arith}
 use Rattle.rules.proofs.typing.wt_pair.Goals as goal
 
 -- the tests together are the rule
@@ -24,44 +23,6 @@ agrees k₁ = (
   λ h. rule_9.1 (refl, refl, refl, cc, cc, cc, cc, h.0.1),
   λ i. let t = rule_9.0 i in ((((cc, cc), cc), t.7), cc),
 )
-
-pub child-b-requires : goal.child-b-requires
-unfolding rule_subjects
-child-b-requires c = (other_rows (λ n h. (omega (arith, h), tt)) c.requires, omega arith, omega arith)
-
-pub is_node-requires : goal.is_node-requires
-unfolding rule_subjects
-is_node-requires c =
-    other_rows (λ n h. (omega (arith, h), (omega (arith, h), (omega (arith, h), tt)))) c.requires
-
-pub is_node-requires-2 : goal.is_node-requires-2
-unfolding rule_subjects
-is_node-requires-2 c =
-    let rows = c.requires in
-    other_rows (λ n h. (omega (arith, h), (omega (arith, h), (omega (arith, h, c.child-b.ensures.below), tt))))
-    rows
-
-pub same_term-requires : goal.same_term-requires
-unfolding rule_subjects
-same_term-requires c =
-    let rows = c.requires in
-    other_rows (λ n h. (omega (arith, h), (omega (arith, h), tt))) rows
-
-pub is_universe-requires : goal.is_universe-requires
-unfolding rule_subjects
-is_universe-requires c =
-    let rows = c.requires in
-    other_rows (λ n h. (omega (arith, h), tt)) rows
-
-pub is_substituted-requires : goal.is_substituted-requires
-unfolding rule_subjects
-is_substituted-requires c =
-    let rows = c.requires in (
-      other_rows
-          (λ n h. (omega (arith, h, c.child-b.ensures.below), (omega (arith, h), (omega (arith, h), tt))))
-          rows,
-      omega (arith, rows.below, rows.few, c.child-b.ensures.below),
-    )
 
 pub returns-then-is_node-same_term : goal.returns-then-is_node-same_term
 unfolding FollowsIn ◌⟨◌⟩

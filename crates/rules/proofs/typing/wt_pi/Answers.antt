@@ -5,55 +5,31 @@ use mathlib.Core.Logic.{◌↔◌}
 use mathlib.Core.List.{[], ◌∷◌}
 use native.Mathlib.Omega.{arith}
 use Rattle.terms.specs.Term.{Term, pi}
-use Rattle.terms.proofs.Tests.{decides_via, ◌&◌, other_rows}
+use Rattle.terms.proofs.Tests.{decides_via, ◌&◌}
 use Rattle.rules.specs.Judgment.{Context, typed}
 use Rattle.rules.specs.Instance.{Instance}
 use Rattle.rules.specs.RuleChecks.{rule_subjects, FollowsIn}
 use Rattle.rules.specs.Conditions.{IsUniverse}
 use Rattle.rules.proofs.TypingLaws.{rule_4}
-use Rattle.rules.proofs.ContextTableAnswers.{rows_known, rows_of}
+use Rattle.rules.proofs.ContextTableAnswers.{rows_of}
 use Rattle.rules.proofs.typing.wt_pi.Goals as goal
 
 -- the tests together are the rule
 agrees : {G G₁ : Context} {c₁ c₃ p₁ p₃ q₁ q₃ : Term}
-    → (((((G₁ ≡ p₁ ∷ G) × (c₁ ≡ pi p₁ q₁)) × (p₃ ≡ c₃)) × (q₃ ≡ c₃)) × IsUniverse c₃)
+    → (((G₁ ≡ p₁ ∷ G) × (p₃ ≡ c₃) × (q₃ ≡ c₃) × IsUniverse c₃) × (c₁ ≡ pi p₁ q₁))
     ↔ Instance 4 (typed G p₁ p₃ ∷ typed G₁ q₁ q₃ ∷ []) (typed G c₁ c₃)
-agrees = (λ h. rule_4.1 (refl, cc, cc, cc, cc, h.1), λ i. let t = rule_4.0 i in ((((cc, cc), cc), cc), t.5))
+agrees = (
+  λ h. rule_4.1 (refl, h.0.0, h.1, h.0.1, h.0.2, h.0.3),
+  λ i. let t = rule_4.0 i in ((t.1, t.3, t.4, t.5), t.2),
+)
 
-pub extends-requires : goal.extends-requires
+pub types_family-requires : goal.types_family-requires
 unfolding rule_subjects
-extends-requires c =
+types_family-requires c =
     let rows = c.requires in
     rows_of rows (omega (arith, rows.given.within), (omega (arith, rows.given.within), tt))
-    (omega (arith, rows.below), tt)
-
-pub is_node-requires : goal.is_node-requires
-unfolding rule_subjects
-is_node-requires c =
-    let rows = c.requires in
-    other_rows (λ n h. (omega (arith, h), (omega (arith, h), (omega (arith, h), tt)))) (rows_known rows)
-
-pub same_term-requires : goal.same_term-requires
-unfolding rule_subjects
-same_term-requires c =
-    let rows = c.requires in
-    other_rows (λ n h. (omega (arith, h), (omega (arith, h), tt))) (rows_known rows)
-
-pub same_term-requires-2 : goal.same_term-requires-2
-unfolding rule_subjects
-same_term-requires-2 c =
-    let rows = c.requires in
-    other_rows (λ n h. (omega (arith, h), (omega (arith, h), tt))) (rows_known rows)
-
-pub is_universe-requires : goal.is_universe-requires
-unfolding rule_subjects
-is_universe-requires c =
-    let rows = c.requires in
-    other_rows (λ n h. (omega (arith, h), tt)) (rows_known rows)
+    (omega (arith, rows.below), (omega (arith, rows.below), (omega (arith, rows.below), (omega (arith, rows.below), tt))))
 
 pub returns : goal.returns
 unfolding FollowsIn
-returns c =
-    decides_via agrees
-    (c.extends.ensures & c.is_node.ensures & c.same_term.ensures
-    & c.same_term-2.ensures & c.is_universe.ensures)
+returns c = decides_via agrees (c.types_family.ensures & c.is_node.ensures)

@@ -5,12 +5,11 @@ use mathlib.Core.Logic.{◌↔◌}
 use mathlib.Core.List.{[], ◌∷◌}
 use Rattle.terms.specs.Term.{Term, first, sigma}
 use Rattle.terms.specs.Tag.{child}
-use Rattle.terms.proofs.Tests.{decides_via, ◌&◌, other_rows}
+use Rattle.terms.proofs.Tests.{decides_via, ◌&◌}
 use Rattle.rules.specs.Judgment.{Context, typed}
 use Rattle.rules.specs.Instance.{Instance}
-use Rattle.rules.specs.RuleChecks.{rule_subjects, FollowsIn}
+use Rattle.rules.specs.RuleChecks.{FollowsIn}
 use Rattle.rules.proofs.TypingLaws.{rule_10}
-use native.Mathlib.Omega.{arith}
 use Rattle.rules.proofs.typing.wt_proj1.Goals as goal
 
 -- the tests together are the rule
@@ -19,21 +18,6 @@ agrees : {G : Context} {c₁ c₃ p₁ p₃ b : Term} → b ≡ child p₃ 2
     ↔ Instance 10 (typed G p₁ p₃ ∷ []) (typed G c₁ c₃)
 unfolding child
 agrees k₁ = (λ h. rule_10.1 (refl, cc, cc), λ i. let t = rule_10.0 i in (cc, cc))
-
-pub child-b-requires : goal.child-b-requires
-unfolding rule_subjects
-child-b-requires c = (other_rows (λ n h. (omega (arith, h), tt)) c.requires, omega arith, omega arith)
-
-pub is_node-requires : goal.is_node-requires
-unfolding rule_subjects
-is_node-requires c = other_rows (λ n h. (omega (arith, h), (omega (arith, h), tt))) c.requires
-
-pub is_node-requires-2 : goal.is_node-requires-2
-unfolding rule_subjects
-is_node-requires-2 c =
-    let rows = c.requires in
-    other_rows (λ n h. (omega (arith, h), (omega (arith, h), (omega (arith, h, c.child-b.ensures.below), tt))))
-    rows
 
 pub returns : goal.returns
 unfolding FollowsIn

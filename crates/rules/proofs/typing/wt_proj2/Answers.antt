@@ -6,12 +6,11 @@ use mathlib.Core.List.{[], ◌∷◌}
 use Rattle.terms.specs.Term.{Term, first, second, sigma}
 use Rattle.terms.specs.Tag.{child}
 use Rattle.terms.specs.Substitution.{◌⟨◌⟩}
-use Rattle.terms.proofs.Tests.{decides_via, ◌&◌, decides_then, decides_not, other_rows}
+use Rattle.terms.proofs.Tests.{decides_via, ◌&◌, decides_then, decides_not}
 use Rattle.rules.specs.Judgment.{Context, typed}
 use Rattle.rules.specs.Instance.{Instance}
-use Rattle.rules.specs.RuleChecks.{rule_subjects, FollowsIn}
+use Rattle.rules.specs.RuleChecks.{FollowsIn}
 use Rattle.rules.proofs.TypingLaws.{rule_11}
-use native.Mathlib.Omega.{arith}
 use Rattle.rules.proofs.typing.wt_proj2.Goals as goal
 
 -- the tests together are the rule
@@ -20,38 +19,6 @@ agrees : {G : Context} {c₁ c₃ p₁ p₃ a b : Term} → a ≡ child p₃ 1 �
     ↔ Instance 11 (typed G p₁ p₃ ∷ []) (typed G c₁ c₃)
 unfolding child
 agrees k₁ k₂ = (λ h. rule_11.1 (refl, cc, cc, cc), λ i. let t = rule_11.0 i in ((cc, cc), cc))
-
-pub child-a-requires : goal.child-a-requires
-unfolding rule_subjects
-child-a-requires c = (other_rows (λ n h. (omega (arith, h), tt)) c.requires, omega arith, omega arith)
-
-pub child-b-requires : goal.child-b-requires
-unfolding rule_subjects
-child-b-requires c = (other_rows (λ n h. (omega (arith, h), tt)) c.requires, omega arith, omega arith)
-
-pub is_node-requires : goal.is_node-requires
-unfolding rule_subjects
-is_node-requires c =
-    let rows = c.requires in
-    other_rows (λ n h. (omega (arith, h), (omega (arith, h), tt))) rows
-
-pub is_node-requires-2 : goal.is_node-requires-2
-unfolding rule_subjects
-is_node-requires-2 c =
-    let rows = c.requires in
-    other_rows
-    (λ n h. (
-      omega (arith, h),
-      (omega (arith, h, c.child-a.ensures.below), (omega (arith, h, c.child-b.ensures.below), tt)),
-    )) rows
-
-pub is_substituted-requires : goal.is_substituted-requires
-unfolding rule_subjects
-is_substituted-requires c =
-    let rows = c.requires in (
-      other_rows (λ n h. (omega (arith, h, c.child-b.ensures.below), (omega (arith, h), (omega (arith, h), tt)))) rows,
-      omega (arith, rows.below, rows.few, c.child-b.ensures.below),
-    )
 
 pub returns-then-is_node : goal.returns-then-is_node
 unfolding FollowsIn ◌⟨◌⟩

@@ -3,12 +3,11 @@
 use mathlib.Core.Path.{◌≡◌, refl}
 use mathlib.Core.Logic.{◌↔◌}
 use mathlib.Core.List.{[], ◌∷◌}
-use native.Mathlib.Omega.{arith}
 use Rattle.terms.specs.Term.{Term, nat, succ}
-use Rattle.terms.proofs.Tests.{decides_via, ◌&◌, other_rows}
+use Rattle.terms.proofs.Tests.{decides_via, ◌&◌}
 use Rattle.rules.specs.Judgment.{Context, typed}
 use Rattle.rules.specs.Instance.{Instance}
-use Rattle.rules.specs.RuleChecks.{rule_subjects, FollowsIn}
+use Rattle.rules.specs.RuleChecks.{FollowsIn}
 use Rattle.rules.proofs.TypingLaws.{rule_14}
 use Rattle.rules.proofs.typing.wt_succ.Goals as goal
 
@@ -17,20 +16,6 @@ agrees : {G : Context} {c₁ c₃ p₁ p₃ : Term}
     → (((c₁ ≡ succ p₁) × (p₃ ≡ nat)) × (c₃ ≡ nat))
     ↔ Instance 14 (typed G p₁ p₃ ∷ []) (typed G c₁ c₃)
 agrees = (λ h. rule_14.1 (refl, cc, cc, cc), λ i. let t = rule_14.0 i in ((cc, cc), cc))
-
-pub is_node-requires : goal.is_node-requires
-unfolding rule_subjects
-is_node-requires c = other_rows (λ n h. (omega (arith, h), (omega (arith, h), tt))) c.requires
-
-pub is_node-requires-2 : goal.is_node-requires-2
-unfolding rule_subjects
-is_node-requires-2 c = other_rows (λ n h. (omega (arith, h), tt)) c.requires
-
-pub is_node-requires-3 : goal.is_node-requires-3
-unfolding rule_subjects
-is_node-requires-3 c =
-    let rows = c.requires in
-    other_rows (λ n h. (omega (arith, h), tt)) rows
 
 pub returns : goal.returns
 unfolding FollowsIn

@@ -3,12 +3,11 @@
 use mathlib.Core.Path.{refl}
 use mathlib.Core.Logic.{◌↔◌}
 use mathlib.Core.List.{[], ◌∷◌}
-use native.Mathlib.Omega.{arith}
 use Rattle.terms.specs.Term.{Term}
-use Rattle.terms.proofs.Tests.{decides_via, other_rows}
+use Rattle.terms.proofs.Tests.{decides_via}
 use Rattle.rules.specs.Judgment.{Context, wf, typed}
 use Rattle.rules.specs.Instance.{Instance}
-use Rattle.rules.specs.RuleChecks.{rule_subjects, FollowsIn}
+use Rattle.rules.specs.RuleChecks.{FollowsIn}
 use Rattle.rules.specs.Conditions.{NextUniverse}
 use Rattle.rules.proofs.TypingLaws.{rule_7}
 use Rattle.rules.proofs.typing.wt_univ.Goals as goal
@@ -17,10 +16,6 @@ use Rattle.rules.proofs.typing.wt_univ.Goals as goal
 agrees : {G : Context} {c₁ c₃ : Term} → NextUniverse c₁ c₃
     ↔ Instance 7 (wf G ∷ []) (typed G c₁ c₃)
 agrees = (λ h. rule_7.1 (refl, h), λ i. let t = rule_7.0 i in t.1)
-
-pub is_next_universe-requires : goal.is_next_universe-requires
-unfolding rule_subjects
-is_next_universe-requires c = other_rows (λ n h. (omega (arith, h), (omega (arith, h), tt))) c.requires
 
 pub returns : goal.returns
 unfolding FollowsIn

@@ -3,12 +3,11 @@
 use mathlib.Core.Path.{◌≡◌, refl}
 use mathlib.Core.Logic.{◌↔◌}
 use mathlib.Core.List.{[], ◌∷◌}
-use native.Mathlib.Omega.{arith}
 use Rattle.terms.specs.Term.{Term, nat, zer}
-use Rattle.terms.proofs.Tests.{decides_via, ◌&◌, other_rows}
+use Rattle.terms.proofs.Tests.{decides_via, ◌&◌}
 use Rattle.rules.specs.Judgment.{Context, wf, typed}
 use Rattle.rules.specs.Instance.{Instance}
-use Rattle.rules.specs.RuleChecks.{rule_subjects, FollowsIn}
+use Rattle.rules.specs.RuleChecks.{FollowsIn}
 use Rattle.rules.proofs.TypingLaws.{rule_13}
 use Rattle.rules.proofs.typing.wt_zero.Goals as goal
 
@@ -17,14 +16,6 @@ agrees : {G : Context} {c₁ c₃ : Term}
     → ((c₁ ≡ zer) × (c₃ ≡ nat))
     ↔ Instance 13 (wf G ∷ []) (typed G c₁ c₃)
 agrees = (λ h. rule_13.1 (refl, cc, cc), λ i. let t = rule_13.0 i in (cc, cc))
-
-pub is_node-requires : goal.is_node-requires
-unfolding rule_subjects
-is_node-requires c = other_rows (λ n h. (omega (arith, h), tt)) c.requires
-
-pub is_node-requires-2 : goal.is_node-requires-2
-unfolding rule_subjects
-is_node-requires-2 c = other_rows (λ n h. (omega (arith, h), tt)) c.requires
 
 pub returns : goal.returns
 unfolding FollowsIn

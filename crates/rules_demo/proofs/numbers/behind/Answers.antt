@@ -8,7 +8,7 @@ pub returns-in-35 : goal.returns-in-35
 returns-in-35 c = comment_behind _ _ c.in-35.is
 
 pub returns-in-48-to-57 : goal.returns-in-48-to-57
-returns-in-48-to-57 c = digit_behind _ _ _ c.wide.ensures.value (omega arith) (omega arith)
+returns-in-48-to-57 c = digit_behind _ _ _ c.from.ensures (omega arith) (omega arith)
 
 pub returns-in_default : goal.returns-in_default
 returns-in_default c = below_digits _ _ (λ e. grind arith) (omega arith)

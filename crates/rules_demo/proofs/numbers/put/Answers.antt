@@ -7,4 +7,4 @@ pub returns-then-out-at-lt2 : goal.returns-then-out-at-lt2
 returns-then-out-at-lt2 c = full _ _ c.requires _ c.if-out-at-lt2.true
 
 pub returns : goal.returns
-returns c = one_put _ _ c.requires _ c.if-out-at-lt2.false
+returns c = rw c.to_le_bytes.ensures (one_put _ _ c.requires _ c.if-out-at-lt2.false)

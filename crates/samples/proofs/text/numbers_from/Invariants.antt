@@ -1,5 +1,4 @@
 -- The invariant is that the numbers before place `count` are read.
-use Prim.Native.Nat.{◌-◌}
 use mathlib.Core.Path.{◌≡◌}
 use lib.ListN.{length}
 use Rattle.samples.proofs.NumberLaws.{NumbersSoFar}
@@ -8,6 +7,3 @@ use Rattle.samples.proofs.text.numbers_from.Given as goal
 abbrev pub invariant-loop-count : goal.invariant-loop-count
 invariant-loop-count l =
     (length l.numbers ≡ length l.initial.numbers) × NumbersSoFar l.line l.first l.numbers l.count
-
-abbrev pub decreases-loop-count : goal.decreases-loop-count
-decreases-loop-count l = length l.initial.numbers - l.count

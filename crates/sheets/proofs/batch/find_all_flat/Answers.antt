@@ -1,19 +1,20 @@
-use mathlib.Core.Path.{◌∙◌}
-use native.Mathlib.Omega.{arith}
-use Rattle.sheets.proofs.OpeningLaws.{opened_fits, flat_answered, flat_put}
+use mathlib.Core.Path.{sym, ◌∙◌, ap}
+use mathlib.Core.List.{map}
+use lib.ListN.{length}
+use Rattle.sheets.specs.Batch.{wanted_of, batch_of, answers_after}
+use Rattle.sheets.proofs.BatchLaws.{wanted_chunks, wanted_count}
 use Rattle.sheets.proofs.batch.find_all_flat.Goals as goal
 
-pub search_each_flat-requires : goal.search_each_flat-requires
-search_each_flat-requires c =
-    let fits = opened_fits _ _ _ _ c.open_batch-o.ensures.answer in
-    (fits.0, omega (arith, fits.1), fits.2)
-
-pub returns : goal.returns
-returns c =
+pub returns-clause-answer : goal.returns-clause-answer
+returns-clause-answer c =
     let args = c.args in
-    let said = c.open_batch-o.ensures in
-    record {
-      answer = c.batch_of.ensures ∙ flat_answered _ _ args.numbers.now args.answers.now _ said.answer;
-      left = said.left;
-      put = c.search_each_flat.ensures ∙ flat_put _ _ args.numbers.now args.answers.now _ said.answer;
-    }
+    c.find_each.ensures.answer
+    ∙ ap (λ n. batch_of args.sheet.now (length args.work.now) n (length args.answers.now))
+    (c.as_chunks.ensures.front_len ∙ sym (wanted_count args.numbers.now))
+
+pub returns-clause-put : goal.returns-clause-put
+returns-clause-put c =
+    let args = c.args in
+    c.find_each.ensures.put
+    ∙ ap (λ ws. answers_after args.sheet.now (length args.work.now) ws args.answers.now)
+    (ap (map wanted_of) c.as_chunks.ensures.front ∙ wanted_chunks args.numbers.now)

@@ -1,5 +1,6 @@
 -- The invariant is that the answers before are put and the elements behind them are untouched.
-use Prim.Native.Nat.{◌-◌}
+use mathlib.Core.List.{map}
+use lib.ListN.{length}
 use Rattle.terms.specs.Lists.{listed}
 use Rattle.sheets.specs.Batch.{wanted_at}
 use Rattle.sheets.specs.Opening.{answer_in}
@@ -7,8 +8,6 @@ use Rattle.sheets.proofs.FillingLaws.{Filling}
 use Rattle.sheets.proofs.batch.search_each.Given as goal
 
 abbrev pub invariant-loop-i : goal.invariant-loop-i
-invariant-loop-i l =
-    Filling (listed (λ k. answer_in l.sheet l.o (wanted_at l.wanted k))) l.n l.initial.answers l.answers l.i
-
-abbrev pub decreases-loop-i : goal.decreases-loop-i
-decreases-loop-i l = l.n - l.i
+invariant-loop-i g l =
+    Filling (listed (λ k. answer_in l.opened.sheet.bytes.now l.opened.sheet.counts (wanted_at (map g.J.Judgment.wanted l.list) k))) (length l.list)
+    l.initial.answers l.answers l.i

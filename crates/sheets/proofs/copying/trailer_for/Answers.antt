@@ -14,12 +14,12 @@ unfolding trailer_for
 returns c =
     let a = c.args in
     λ i. record {
-      terms = a.terms;
-      contexts = a.contexts;
-      lines = a.lines;
+      terms = a.counts.terms;
+      contexts = a.counts.contexts;
+      lines = a.counts.lines;
       edition = a.edition;
-      to_terms = terms_away a.terms a.contexts a.lines i;
-      to_contexts = distance_to_contexts a.contexts a.lines;
-      to_lines = distance_to_lines a.lines;
+      to_terms = terms_away a.counts.terms a.counts.contexts a.counts.lines i;
+      to_contexts = distance_to_contexts a.counts.contexts a.counts.lines;
+      to_lines = distance_to_lines a.counts.lines;
       mark = 0x4C44;
     }

@@ -1,11 +1,6 @@
 use native.Mathlib.Omega.{arith}
 use Rattle.sheets.proofs.KeptWordLaws.{parts_written}
-use borrow.Author.Rules.{rules}
 use Rattle.sheets.proofs.copying.write_sheet.Goals as goal
-
-pub write_trailer-requires : goal.write_trailer-requires
-write_trailer-requires c =
-    (c.requires.small_trailer.0, search rules)
 
 pub returns : goal.returns
 returns c =

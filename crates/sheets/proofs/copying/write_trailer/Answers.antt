@@ -10,31 +10,16 @@ pub loop-i-init : goal.loop-i-init
 unfolding bytes_of listed
 loop-i-init c = filling_start _ _ _ refl
 
-pub offset_bounds-words-i : goal.offset_bounds-words-i
-offset_bounds-words-i c = omega arith
-
-pub bounds-words-i : goal.bounds-words-i
-bounds-words-i c = omega arith
-
 pub put_word-requires : goal.put_word-requires
 unfolding word_of_trailer
 put_word-requires c =
     let within = c.loop-i-test.true in
     (omega (arith, c.loop-i.invariant, c.requires.1), c.requires.0.words _ within)
 
-pub overflow_add-i : goal.overflow_add-i
-overflow_add-i c = omega arith
-
-pub loop-i-smaller : goal.loop-i-smaller
-loop-i-smaller c = omega arith
-
 pub loop-i-preserved : goal.loop-i-preserved
 loop-i-preserved c =
     filling_word _ c.requires.1 c.loop-i.invariant c.loop-i-test.true refl
     c.put_word.ensures
-
-pub shape_of-out : goal.shape_of-out
-shape_of-out c = c.loop-i.invariant.long
 
 pub returns : goal.returns
 unfolding word_of_trailer

@@ -2,9 +2,6 @@ use mathlib.Core.Path.{sym, ◌∙◌}
 use Rattle.sheets.specs.Layout.{counts_fit}
 use Rattle.sheets.proofs.layout.counts_fit.Goals as goal
 
-pub distances_fit-requires : goal.distances_fit-requires
-distances_fit-requires c = sym c.limits_fit.ensures ∙ c.if-limits_fit.true
-
 pub returns-then-limits_fit : goal.returns-then-limits_fit
 unfolding counts_fit
 returns-then-limits_fit c = rw (sym c.limits_fit.ensures ∙ c.if-limits_fit.true, c.distances_fit.ensures, counts_fit)

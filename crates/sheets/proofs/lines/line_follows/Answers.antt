@@ -15,7 +15,7 @@ use Rattle.sheets.specs.Lines.{judgment_of, premises_of, LineFollows}
 use Rattle.sheets.proofs.BufferLaws.{part_to_end}
 use Rattle.sheets.proofs.LineAnswers.{named_whole, line_in_tables, line_decided}
 use native.Mathlib.Omega.{arith}
-use Rattle.sheets.proofs.lines.line_follows.Goals.{After-judgment_of-c}
+use Rattle.sheets.proofs.lines.line_follows.Goals.{After-from-c}
 use Rattle.sheets.proofs.lines.line_follows.Goals as goal
 
 pub read_line-requires : goal.read_line-requires
@@ -48,44 +48,43 @@ Told sheet contexts T C n rule premises c =
     LineInTables sheet contexts rule premises c
     × ((b : Bool) → Decides b (Follows sheet contexts rule premises c) → Decides b (LineFollows sheet T C n))
 
-told : (c : After-judgment_of-c)
+told : (c : After-from-c)
     → let start = c.args in
     let bytes = c.args.sheet.now in
-    let after = 10 * start.terms in
-    Told bytes (take (length bytes - after) (drop after bytes)) start.terms start.contexts start.n
+    let after = 10 * start.counts.terms in
+    Told bytes (take (length bytes - after) (drop after bytes)) start.counts.terms start.counts.contexts start.n
     start.line.rule
     (
-    c.judgment_of-p.result
-    ∷ c.judgment_of-q.result
-    ∷ c.judgment_of-r.result
-    ∷ c.judgment_of-s.result
+    c.into.result
+    ∷ c.into-2.result
+    ∷ c.into-3.result
+    ∷ c.into-4.result
     ∷ []
     )
-    c.judgment_of-c.result
+    c.from-c.result
 unfolding contexts_in lines_in
 told c =
     let rows = c.requires.good_before in
     let bytes = c.args.sheet.now in
-    let terms = c.args.terms in
+    let terms = c.args.counts.terms in
     let own = c.requires.edition_value in
     let context-rows = part_to_end bytes (10 * terms) in
-    let lines = part_to_end bytes (10 * terms + 4 * c.args.contexts) in
-    let p = c.judgment_of-p.ensures ∙ ap judgment_of c.read_line.ensures in
-    let q = c.judgment_of-q.ensures ∙ ap judgment_of c.read_line-2.ensures in
-    let r = c.judgment_of-r.ensures ∙ ap judgment_of c.read_line-3.ensures in
-    let s = c.judgment_of-s.ensures ∙ ap judgment_of c.read_line-4.ensures in (
+    let lines = part_to_end bytes (10 * terms + 4 * c.args.counts.contexts) in
+    let p = c.into.ensures ∙ ap judgment_of c.read_line.ensures in
+    let q = c.into-2.ensures ∙ ap judgment_of c.read_line-2.ensures in
+    let r = c.into-3.ensures ∙ ap judgment_of c.read_line-3.ensures in
+    let s = c.into-4.ensures ∙ ap judgment_of c.read_line-4.ensures in (
       line_in_tables _ _ _ _ c.args.line rows.0 rows.1 rows.2 own _ _ context-rows lines _ _ _ _ _
-          p q r s c.judgment_of-c.ensures,
+          p q r s c.from-c.ensures,
       line_decided _ _ _ _ c.args.line rows.0 rows.1 rows.2 own _ _ context-rows lines _ _ _ _ _
-          p q r s c.judgment_of-c.ensures,
+          p q r s c.from-c.ensures,
     )
 
 pub is_cited_instance-requires : goal.is_cited_instance-requires
 is_cited_instance-requires c =
     let behind = c.cites_motive.ensures.0 c.if-cites_motive.true in
     record {
-      table_value = c.requires.table_value;
-      line_in_tables = (told (goal.at.is_cited_instance-requires c).After-judgment_of-c).0;
+      line_in_tables = (told (goal.at.is_cited_instance-requires c).After-from-c).0;
       lt_rule = behind;
     }
 
@@ -93,13 +92,12 @@ pub is_instance-requires : goal.is_instance-requires
 is_instance-requires c =
     let low = refuted c.cites_motive.ensures c.if-cites_motive.false in
     record {
-      table_value = c.requires.table_value;
-      line_in_tables = (told (goal.at.is_instance-requires c).After-judgment_of-c).0;
+      line_in_tables = (told (goal.at.is_instance-requires c).After-from-c).0;
       rule_bound = omega (arith, low);
     }
 
 pub returns-then-cites_motive : goal.returns-then-cites_motive
-returns-then-cites_motive c = (told (goal.at.returns-then-cites_motive c).After-judgment_of-c).1 _ c.is_cited_instance.ensures
+returns-then-cites_motive c = (told (goal.at.returns-then-cites_motive c).After-from-c).1 _ c.is_cited_instance.ensures
 
 pub returns-else-cites_motive : goal.returns-else-cites_motive
-returns-else-cites_motive c = (told (goal.at.returns-else-cites_motive c).After-judgment_of-c).1 _ c.is_instance.ensures
+returns-else-cites_motive c = (told (goal.at.returns-else-cites_motive c).After-from-c).1 _ c.is_instance.ensures

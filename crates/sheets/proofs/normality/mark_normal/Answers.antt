@@ -1,21 +1,30 @@
-use mathlib.Core.Path.{sym, ◌∙◌}
-use Rattle.sheets.proofs.AdmissionLaws.{accepted_is}
-use Rattle.sheets.proofs.NormalityLaws.{normality_refused, normality_accepted}
+use mathlib.Core.Path.{refl, sym, ◌∙◌, ap}
+use Rattle.std.specs.Prelude.{Err}
+use Rattle.sheets.proofs.RefusalLaws.{exits}
+use Rattle.sheets.proofs.GoodSheetLaws.{admitted_good}
+use Rattle.sheets.proofs.NormalityLaws.{term_missing, term-answered, normality_refused, normality_accepted}
 use Rattle.sheets.proofs.normality.mark_normal.Goals as goal
 
-pub term_normality-requires : goal.term_normality-requires
-term_normality-requires c =
-    let answer = c.admit.ensures.answer in
-    let tables = ((accepted_is _ _ _ _ _).0 (sym answer ∙ c.in-Accepted.is)).0.tables in
-    (tables.terms, tables.laid.few_terms)
+pub returns-in_err-counts-clause-answer : goal.returns-in_err-counts-clause-answer
+returns-in_err-counts-clause-answer c =
+    exits c.from_residual.ensures ∙ sym (normality_refused _ _ _ _ _ (sym c.admit.ensures.answer ∙ c.in_err-counts.was))
 
-pub returns-in-Refused : goal.returns-in-Refused
-returns-in-Refused c =
-    let admitted = c.admit.ensures in
-    record { answer = sym (normality_refused _ _ _ _ _ (sym admitted.answer ∙ c.in-Refused.is)); left = admitted.left }
+pub returns-then-counts-term-clause-answer : goal.returns-then-counts-term-clause-answer
+returns-then-counts-term-clause-answer c =
+    ap Err c.at.ensures ∙ term_missing _ _ _ c.if-counts-term.true
+    ∙ sym (normality_accepted _ _ _ _ _ _ (sym c.admit.ensures.answer ∙ c.in_ok-counts.was))
 
-pub returns-in-Accepted : goal.returns-in-Accepted
-returns-in-Accepted c =
-    let admitted = c.admit.ensures in
-    let accepted = normality_accepted _ _ _ _ _ _ (sym admitted.answer ∙ c.in-Accepted.is) in
-    record { answer = c.term_normality.ensures ∙ sym accepted; left = admitted.left }
+pub is_normal-requires : goal.is_normal-requires
+is_normal-requires c =
+    let tables = (admitted_good _ _ _ (sym c.admit.ensures.answer ∙ c.in_ok-counts.was)).tables in
+    record {
+      count = c.in_ok-counts.counts.terms;
+      few = tables.laid.few_terms;
+      table = tables.terms;
+      below = (c.if-counts-term.false, tt);
+    }
+
+pub returns-clause-answer : goal.returns-clause-answer
+returns-clause-answer c =
+    term-answered _ _ _ c.if-counts-term.false _ _ c.is_normal.ensures refl
+    ∙ sym (normality_accepted _ _ _ _ _ _ (sym c.admit.ensures.answer ∙ c.in_ok-counts.was))

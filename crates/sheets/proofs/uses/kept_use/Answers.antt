@@ -1,84 +1,68 @@
+use mathlib.Core.Path.{refl}
+use Rattle.std.specs.Prelude.{Some}
+use mathlib.Core.Logic.{inl, inr}
 use native.Mathlib.Omega.{arith}
-use borrow.Author.Tests.{ltb-true}
-use Rattle.terms.proofs.Tables.{and_left}
+use borrow.Author.Rules.{rules}
 use Rattle.sheets.specs.LineSets.{last_listed}
 use Rattle.sheets.proofs.LineSetLaws.{few_listed}
 use Rattle.sheets.proofs.KeptUseLaws.{none_listed, found_start, Asking, place_within, rule_known_lem}
-use Rattle.sheets.proofs.KeptUseLaws.{premises_few, found_next, loop_ended, found_use}
-use Rattle.sheets.proofs.uses.kept_use.Goals.{In-loop-m}
+use Rattle.sheets.proofs.KeptUseLaws.{premises_few, none_found, one_found, found_use}
+use Rattle.sheets.proofs.uses.kept_use.Goals.{After-old_number-place, in-Some+else-highest-last, in_default}
 use Rattle.sheets.proofs.uses.kept_use.Goals as goal
 
-pub returns-then-listed-eq0 : goal.returns-then-listed-eq0
-returns-then-listed-eq0 c = none_listed _ _ _ _ c.requires.rises.1 c.if-listed-eq0.true
-
-pub rule_table-table-requires : goal.rule_table-table-requires
-rule_table-table-requires c = tt
-
-pub overflow_sub-last : goal.overflow_sub-last
-overflow_sub-last c = omega arith
-
-pub offset_bounds-set-listed : goal.offset_bounds-set-listed
-offset_bounds-set-listed c = omega arith
-
-pub bounds-set-listed : goal.bounds-set-listed
-bounds-set-listed c = omega arith
+pub returns-then-size-eq0 : goal.returns-then-size-eq0
+returns-then-size-eq0 c = none_listed _ _ _ _ c.requires.0 c.if-size-eq0.true
 
 pub overflow_sub-left : goal.overflow_sub-left
 overflow_sub-left c =
-    few_listed c.args.set.now c.args.count c.requires.rises.0 c.requires.rises.1
-
-pub bounds-set-0 : goal.bounds-set-0
-bounds-set-0 c = omega arith
+    few_listed c.args.set.numbers.now c.args.lines.count c.args.set.rises c.requires.0
 
 pub loop-m-init : goal.loop-m-init
 loop-m-init c =
-    found_start _ _ _ _ c.requires.rises.0 c.requires.count_in_bounds.2
+    found_start _ _ _ _ c.args.set.rises c.args.lines.citing.2
 
--- what is known where the loop goes on
-asking : (c : In-loop-m)
-    → let start = c.args in
-    Asking start.edition start.lines.now start.count start.set.now start.below.now start.kept.now
-    c.loop-m.m
+-- what is known of the line that is asked
+asking : (c : After-old_number-place)
+    → Asking c.args.lines.edition c.args.lines.rows.now c.args.lines.count c.args.set.numbers.now c.args.numbers.now.below c.args.numbers.now.kept
+    c.loop-m.m c.old_number-place.result
 asking c =
-    record { sheet = c.requires.count_in_bounds; numbered = c.requires.rises; within = ltb-true _ _ (and_left _ _ c.loop-m-test.true) }
+    record {
+      sheet = c.args.lines.citing;
+      numbered = (c.args.set.rises, c.requires.0, c.requires.1);
+      within = c.loop-m-test.true;
+      place_is = c.old_number-place.ensures;
+    }
 
-pub offset_bounds-kept-m : goal.offset_bounds-kept-m
-offset_bounds-kept-m c = omega (arith, asking (goal.at.offset_bounds-kept-m c).In-loop-m)
+pub line-line-requires : goal.line-line-requires
+line-line-requires c =
+    let a = asking (goal.at.line-line-requires c).After-old_number-place in omega (arith, a, place_within a)
 
-pub bounds-kept-m : goal.bounds-kept-m
-bounds-kept-m c = omega (arith, asking (goal.at.bounds-kept-m c).In-loop-m)
-
-pub overflow_cast-place : goal.overflow_cast-place
-overflow_cast-place c =
-    let a = asking (goal.at.overflow_cast-place c).In-loop-m in omega (arith, a, place_within a)
-
-pub read_line-requires : goal.read_line-requires
-read_line-requires c =
-    let a = asking (goal.at.read_line-requires c).In-loop-m in omega (arith, a, place_within a)
-
-pub highest_listed-above-requires : goal.highest_listed-above-requires
-highest_listed-above-requires c =
-    let a = asking (goal.at.highest_listed-above-requires c).In-loop-m in
-    let read = c.read_line.ensures in
-    record { table_value = c.rule_table-table.ensures; rule = rule_known_lem a _ read; p0_bound = premises_few a _ read }
-
-pub higher_use-found-requires : goal.higher_use-found-requires
-higher_use-found-requires c = tt
-
-pub overflow_add-m : goal.overflow_add-m
-overflow_add-m c = omega (arith, asking (goal.at.overflow_add-m c).In-loop-m)
-
-pub loop-m-smaller : goal.loop-m-smaller
-loop-m-smaller c = omega (arith, asking (goal.at.loop-m-smaller c).In-loop-m)
+pub highest_listed-requires : goal.highest_listed-requires
+highest_listed-requires c =
+    let a = asking (goal.at.highest_listed-requires c).After-old_number-place in
+    let read = c.line-line.ensures in
+    record { rule = rule_known_lem a _ read; p0_bound = premises_few a _ read }
 
 pub loop-m-preserved : goal.loop-m-preserved
 loop-m-preserved c =
-    found_next (asking (goal.at.loop-m-preserved c).In-loop-m) _ c.read_line.ensures _ _ _
-    c.highest_listed-above.ensures c.higher_use-found.ensures
-    c.loop-m.invariant
+    let asked = asking (goal.at.loop-m-preserved c).After-old_number-place in
+    let read = c.line-line.ensures in
+    elim c.match-highest_listed.branch [
+      | in-Some+else-highest-last w ↦
+          rw w.found-is
+          (one_found asked _ read c.loop-m.invariant _ w.in-Some.ensures _ refl _ w.higher_use-highest.ensures)
+      | in_default w ↦ rw w.found-is (none_found asked _ read c.loop-m.invariant _ w.in_default.ensures refl)
+    ]
+
+pub returns-then-highest-last : goal.returns-then-highest-last
+unfolding last_listed
+returns-then-highest-last c =
+    let asked = asking (goal.at.returns-then-highest-last c).After-old_number-place in
+    found_use _ _ _ _ c.args.set.rises c.requires.0 _ (Some c.higher_use-highest.result)
+    (one_found asked _ c.line-line.ensures c.loop-m.invariant _ c.in-Some.ensures _ refl _
+    c.higher_use-highest.ensures)
+    (inr (omega (arith, c.if-highest-last.true)))
 
 pub returns : goal.returns
-unfolding last_listed
 returns c =
-    found_use _ _ _ _ c.requires.rises.0 c.requires.rises.1 _ _ c.loop-m.invariant
-    (loop_ended _ _ _ _ c.loop-m-test.false)
+    search (rules, found_use _ _ _ _ c.args.set.rises c.requires.0 _ _ c.loop-m.invariant (inl c.loop-m-test.false))

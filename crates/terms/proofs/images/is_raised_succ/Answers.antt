@@ -5,30 +5,7 @@ use Rattle.terms.specs.Rows.{term}
 use Rattle.terms.specs.Substitution.{shift}
 use Rattle.terms.proofs.Tests.{decides_via, ◌&◌}
 use Rattle.terms.proofs.ImageLaws.{succ_parts, raised_variable}
-use native.Mathlib.Omega.{arith}
 use Rattle.terms.proofs.images.is_raised_succ.Goals as goal
-
-pub is_node-requires : goal.is_node-requires
-is_node-requires c =
-    record {
-      count =
-          c.requires.0.count;
-      few = c.requires.0.few;
-      table = c.requires.0.table;
-      below =
-          (c.requires.0.below.0, (omega (arith, c.child-v.ensures.below, c.requires.0.below.0), tt));
-    }
-
-pub is_node-requires-2 : goal.is_node-requires-2
-is_node-requires-2 c =
-    record {
-      count =
-          c.requires.0.count;
-      few = c.requires.0.few;
-      table = c.requires.0.table;
-      below =
-          (omega (arith, c.child-v.ensures.below, c.requires.0.below.0), tt);
-    }
 
 pub returns : goal.returns
 unfolding shift

@@ -1,18 +1,15 @@
--- Tags 1 and 2 have a number, the others none.
-use mathlib.Core.Path.{◌∙◌}
-use Rattle.terms.proofs.NodeLaws.{row_whole, number_is, number_none}
-use borrow.Author.Rules.{rules}
-use native.Mathlib.Omega.{arith}
+-- A variable and a universe have a number, the others none.
+use mathlib.Core.Path.{◌∙◌, subst}
+use Prim.Native.Nat.{◌<◌}
+use Rattle.terms.specs.Tag.{arity, used}
+use Rattle.terms.proofs.TagTables.{numbered, not_numbered}
+use Rattle.terms.proofs.NodeLaws.{number_is}
 use Rattle.terms.proofs.nodes.number.Goals as goal
 
-pub word-requires : goal.word-requires
-word-requires c = (row_whole _ _ _ c.requires.table c.requires.below.0, search rules)
+pub returns-in-Var-clause-value : goal.returns-in-Var-clause-value
+returns-in-Var-clause-value c =
+    let number = subst (λ τ. arity τ < used τ) c.tag_at.ensures (numbered _ c.in-Var.is) in
+    c.word.ensures.value ∙ number_is _ _ c.requires.table _ c.requires.below.0 number
 
-pub word-requires-then-word-le2 : goal.word-requires-then-word-le2
-word-requires-then-word-le2 c = (row_whole _ _ _ c.requires.table c.requires.below.0, search rules)
-
-pub returns-then-word-le2 : goal.returns-then-word-le2
-returns-then-word-le2 c = record { value = c.word-then-word-le2.ensures.value ∙ number_is _ _ c.requires.table _ c.requires.below.0 (omega (arith, c.word.ensures.value)); range = c.word-then-word-le2.ensures.range }
-
-pub returns : goal.returns
-returns c = record { value = number_none _ _ c.requires.table _ c.requires.below.0 (omega (arith, c.word.ensures.value)); range = omega arith }
+pub returns-in_default-clause-value : goal.returns-in_default-clause-value
+returns-in_default-clause-value c = not_numbered c.in_default.not-Var c.in_default.not-Univ _ c.tag_at.ensures

@@ -1,5 +1,5 @@
 -- The recognisers of normal and neutral terms: twice the row's number falls, one more on the normal side.
-use Prim.Native.Nat.{ℕ, ◌+◌, ◌*◌, ◌-◌}
+use Prim.Native.Nat.{ℕ, ◌+◌, ◌*◌}
 use Rattle.terms.specs.Term.{Term}
 use Rattle.terms.specs.Tag.{tag_in}
 use Rattle.terms.specs.Rows.{term}
@@ -20,13 +20,7 @@ abbrev pub decreases-walk_neutral : goal.decreases-walk_neutral
 decreases-walk_neutral l = 2 * l.t
 
 abbrev pub invariant-walk_normal-loop-j : goal.invariant-walk_normal-loop-j
-invariant-walk_normal-loop-j l = Visit l.rows l.t NormalPart l.tag l.count l.j × Known l.rows l.known
-
-abbrev pub decreases-walk_normal-loop-j : goal.decreases-walk_normal-loop-j
-decreases-walk_normal-loop-j l = l.count + 1 - l.j
+invariant-walk_normal-loop-j l = Visit l.rows l.t NormalPart l.j × Known l.rows l.known
 
 abbrev pub invariant-walk_neutral-loop-j : goal.invariant-walk_neutral-loop-j
-invariant-walk_neutral-loop-j l = Visit l.rows l.t (Part (tag_in (term l.rows l.t))) l.tag l.count l.j × Known l.rows l.known
-
-abbrev pub decreases-walk_neutral-loop-j : goal.decreases-walk_neutral-loop-j
-decreases-walk_neutral-loop-j l = l.count + 1 - l.j
+invariant-walk_neutral-loop-j l = Visit l.rows l.t (Part (tag_in (term l.rows l.t))) l.j × Known l.rows l.known

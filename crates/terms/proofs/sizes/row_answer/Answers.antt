@@ -1,25 +1,27 @@
--- Each way out is one law on the answer for a row.
-use Rattle.terms.proofs.CheckLaws.{fits_known, answer_5, answer_6, answer_7, answer_size}
+-- The index tells of repetition what the definition does.
+use native.Mathlib.Omega.{arith}
+use Rattle.std.proofs.lemmas.Grind.{common_steps}
+use Rattle.terms.specs.Sizes.{row_answer}
+use Rattle.terms.proofs.CheckLaws.{over_limit, within_limit}
+use Rattle.terms.proofs.RepetitionLaws.{repeated_told}
 use Rattle.terms.proofs.sizes.row_answer.Goals as goal
 
 pub returns-then-repeated : goal.returns-then-repeated
-returns-then-repeated c =
-    answer_6 _ _ c.args.sizes.now _ _ c.requires.3 c.fits.ensures c.if-fits.true _ c.repeated.ensures c.if-repeated.true
-
-pub row_size-size-requires : goal.row_size-size-requires
-row_size-size-requires c =
-    fits_known _ c.args.sizes.now _ _ c.fits.ensures c.if-fits.true c.requires.1
+unfolding row_answer
+returns-then-repeated c = let told = repeated_told _ _ _ _ c.repeated.ensures in grind (arith, common_steps)
 
 pub returns-then-too_large : goal.returns-then-too_large
+unfolding row_answer
 returns-then-too_large c =
+    let told = repeated_told _ _ _ _ c.repeated.ensures in
+    let large = over_limit c.row_size-size.result (omega arith) in
     let size = c.row_size-size.ensures _ _ c.requires.3 in
-    answer_7 _ _ c.args.sizes.now _ _ c.requires.3 c.fits.ensures c.if-fits.true _ c.repeated.ensures c.if-repeated.false _ size c.if-too_large.true
+    grind (arith, common_steps)
 
-pub returns-else-too_large : goal.returns-else-too_large
-returns-else-too_large c =
+pub returns : goal.returns
+unfolding row_answer
+returns c =
+    let told = repeated_told _ _ _ _ c.repeated.ensures in
+    let small = within_limit _ c.if-too_large.false in
     let size = c.row_size-size.ensures _ _ c.requires.3 in
-    answer_size _ _ c.args.sizes.now _ _ c.requires.3 c.fits.ensures c.if-fits.true _ c.repeated.ensures c.if-repeated.false _ size c.if-too_large.false
-
-pub returns-else-fits : goal.returns-else-fits
-returns-else-fits c =
-    answer_5 _ _ c.args.sizes.now _ _ c.requires.3 c.fits.ensures c.if-fits.false
+    grind (arith, common_steps)

@@ -1,5 +1,0 @@
-use Rattle.rules.proofs.ContextTableAnswers.{same_says}
-use Rattle.rules.proofs.contexts.same_context.Goals as goal
-
-pub returns : goal.returns
-returns c = same_says _ _ _ _ c.requires

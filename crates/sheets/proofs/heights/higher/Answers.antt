@@ -1,8 +1,0 @@
-use native.Mathlib.Omega.{arith}
-use Rattle.sheets.proofs.heights.higher.Goals as goal
-
-pub returns-then-m-n : goal.returns-then-m-n
-returns-then-m-n c = omega (arith, c.if-m-n.true)
-
-pub returns : goal.returns
-returns c = omega (arith, c.if-m-n.false)
