@@ -1,5 +1,6 @@
 // The own checks of rules 17 to 34, equality. A congruence, as E-PI, is the typing rule of the left sides, and on the
-// right side the same node of the right ones.
+// right side the same node of the right ones. A typing rule that walks through terms is asked behind the rows that are
+// looked at, and not at all where one of them is another: such a line costs no walk.
 #![tactic(auto, using(terms::proofs::Tests::other_rows, crate::proofs::ContextTableAnswers::rows_known), unfolding(crate::specs::RuleChecks::rule_subjects))]
 
 ghost use Rattle.std.specs.Prelude.{[], ◌∷◌};
@@ -79,7 +80,11 @@ pub fn e_app(terms: &[u8], c: LineJudgment, p: LineJudgment, q: LineJudgment) ->
     requires { RowsInTable terms.now (rule_subjects 22 (p ∷ q ∷ []) c) }
     ensures { DecidesInEvery result terms.now 22 (p ∷ q ∷ []) c }
 {
-    wt_app(terms, c, p, q) & is_node(terms, c.s2, Node::App(p.s2, q.s2))
+    if is_node(terms, c.s2, Node::App(p.s2, q.s2)) {
+        wt_app(terms, c, p, q)
+    } else {
+        false
+    }
 }
 
 // E-SIG
@@ -121,7 +126,11 @@ pub fn e_proj2(terms: &[u8], c: LineJudgment, p: LineJudgment) -> bool
     requires { RowsInTable terms.now (rule_subjects 26 (p ∷ []) c) }
     ensures { DecidesInEvery result terms.now 26 (p ∷ []) c }
 {
-    wt_proj2(terms, c, p) & is_node(terms, c.s2, Node::Second(p.s2))
+    if is_node(terms, c.s2, Node::Second(p.s2)) {
+        wt_proj2(terms, c, p)
+    } else {
+        false
+    }
 }
 
 // E-SUC
@@ -137,12 +146,15 @@ pub fn e_ind(tables: Tables, c: LineJudgment, ps: &Premises) -> bool
     requires { RuleInTables tables.terms.now tables.contexts.now 28 (in_order ps.now) c }
     ensures { Decides result (FollowsPlaced tables.entry.terms.now tables.entry.contexts.now 28 (in_order ps.now) c) }
 {
-    wt_ind(tables, c, ps)
-        & is_node(
-            tables.terms,
-            c.s2,
-            Node::Ind(ps.p.s2, ps.q.s2, ps.r.s2, ps.s.s2),
-        )
+    if is_node(
+        tables.terms,
+        c.s2,
+        Node::Ind(ps.p.s2, ps.q.s2, ps.r.s2, ps.s.s2),
+    ) {
+        wt_ind(tables, c, ps)
+    } else {
+        false
+    }
 }
 
 // E-CONV
@@ -187,10 +199,14 @@ pub fn e_projpair1(
         s3: r.s1,
         ..r
     };
-    is_node(terms, c.s1, Node::First(d))
-        & wt_pair(terms, pair, p, q, r)
+    if is_node(terms, c.s1, Node::First(d))
         & same_term(terms, c.s2, p.s1)
         & same_term(terms, c.s3, p.s3)
+    {
+        wt_pair(terms, pair, p, q, r)
+    } else {
+        false
+    }
 }
 
 // E-PROJPAIR2, likewise; one function for both would be told the node and the premise that each concludes with
@@ -210,10 +226,14 @@ pub fn e_projpair2(
         s3: r.s1,
         ..r
     };
-    is_node(terms, c.s1, Node::Second(d))
-        & wt_pair(terms, pair, p, q, r)
+    if is_node(terms, c.s1, Node::Second(d))
         & same_term(terms, c.s2, q.s1)
         & same_term(terms, c.s3, q.s3)
+    {
+        wt_pair(terms, pair, p, q, r)
+    } else {
+        false
+    }
 }
 
 // E-INDZERO

@@ -10,7 +10,7 @@ use native.Mathlib.Decide.{dec_lt}
 use native.Mathlib.Omega.{arith}
 use lib.Dec.{ltb}
 use lib.ListN.{length, get_or, set, take, drop, length-append, length-drop, length-set, drop_of_length-le}
-use lib.Seq.{set_at, set-append_left, take_at, drop_at, drop-drop, drop-cons, append_snoc}
+use lib.Seq.{set_at, set-append_left, take_at, drop_at, drop-drop, drop-cons, take-suc, append_snoc, length-take-le}
 use borrow.Author.Tests.{lt-ltb, le-ltb}
 use Rattle.terms.specs.Words.{bytes_of}
 use Rattle.terms.specs.Lists.{listed}
@@ -105,6 +105,18 @@ module _ (steps : ℕ → List ℕ) (count : ℕ) (before : List ℕ) where
         → Filling (with_tail n out tail) (i + 1)
     filling_part {tail} n ys h size room next done =
         filling_next ys h (omega arith) (over_tail (steps i) before n size out tail ys at.filled done) next
+
+-- a list is copied
+module _ {xs before out : List ℕ} {count i : ℕ} where
+  pub filling_byte : count ≤ length xs → count ≤ length before → Filling (λ k. take k xs) count before out i
+      → i < count → Filling (λ k. take k xs) count before (set out i (get_or xs i 0)) (i + 1)
+  filling_byte long room at h =
+      filling_next _ _ _ at (get_or xs i 0 ∷ []) h (omega (arith, size))
+      (ap (λ o. set o i (get_or xs i 0)) at.filled ∙ over_one (take i xs) before i size (get_or xs i 0) (omega arith))
+      (take-suc xs i 0 (omega arith))
+    where
+      size : length (take i xs) ≡ i
+      size = length-take-le i xs (omega arith)
 
 -- elements are written
 module _ (f : ℕ → ℕ) {before out : List ℕ} {count i x : ℕ} where

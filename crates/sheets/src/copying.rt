@@ -41,7 +41,9 @@ pub fn copy_bytes(sheet: &[u8], count: usize, out: &mut [u8])
     requires { (count ≤ length sheet.now) × (count ≤ length out.old) }
     ensures { out.new ≡ over (take count sheet.now) out.old }
 {
-    out[..count].copy_from_slice(&sheet[..count]);
+    for i in 0..count {
+        out[i] = sheet[i];
+    }
 }
 
 // Writes `w` as word `i`.

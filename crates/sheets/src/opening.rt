@@ -7,6 +7,7 @@ ghost use Rattle.sheets.specs.Finding.{search_lines};
 use crate::finding::Wanted;
 use crate::good_sheet::GoodSheet;
 use crate::heights::line_heights;
+use crate::lines::Lines;
 use crate::refusals::Refusal;
 use crate::searching::search_lines;
 
@@ -32,6 +33,16 @@ impl<'a> Opened<'a> {
     pub fn search(&self, wanted: Wanted) -> Result<usize, Refusal>
         ensures { result ≡ search_lines (edition_of self.now.sheet.bytes.now) (lines_in self.now.sheet.bytes.now self.now.sheet.counts.terms self.now.sheet.counts.contexts) self.now.sheet.counts.lines wanted }
     {
-        search_lines(self.sheet.lines(), &self.heights, wanted)
+        self.search_in(self.sheet.lines(), wanted)
+    }
+
+    // The same, among the lines of the sheet, which are asked for once where there are many searches.
+    pub fn search_in(&self, lines: Lines, wanted: Wanted) -> Result<usize, Refusal>
+        requires own_edition { lines.edition ≡ edition_of self.now.sheet.bytes.now }
+        requires own_rows { lines.rows.now ≡ lines_in self.now.sheet.bytes.now self.now.sheet.counts.terms self.now.sheet.counts.contexts }
+        requires own_count { lines.count ≡ self.now.sheet.counts.lines }
+        ensures { result ≡ search_lines (edition_of self.now.sheet.bytes.now) (lines_in self.now.sheet.bytes.now self.now.sheet.counts.terms self.now.sheet.counts.contexts) self.now.sheet.counts.lines wanted }
+    {
+        search_lines(lines, &self.heights, wanted)
     }
 }

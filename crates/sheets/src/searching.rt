@@ -20,8 +20,7 @@ fn better(heights: &[u16; 1024], best: Option<usize>, n: usize) -> usize
     }
 }
 
-// The easiest of the lines that has these five numbers. A call: compiled among others, the loop takes an eighth longer.
-#[inline(never)]
+// The easiest of the lines that has these five numbers.
 pub fn search_lines(lines: Lines, heights: &[u16; 1024], wanted: Wanted) -> Result<usize, Refusal>
     requires { heights.now ≡ heights_of lines.edition lines.rows.now lines.count }
     ensures { result ≡ search_lines lines.entry.edition lines.entry.rows.now lines.entry.count wanted }

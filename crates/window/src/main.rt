@@ -11,13 +11,17 @@ use std::rt::Env;
 // The answer to the three arguments, if they are dates in text. Linux passes no argument of 131,072 bytes or more, so
 // that none is too long.
 fn answer(rt: &impl Env) -> Option<Line> {
+    // before any call, since behind one they are cleared twice
+    let mut first = [0; 131072];
+    let mut last = [0; 131072];
+    let mut day = [0; 131072];
     if argument_count(rt) != 4 {
         return None;
     }
     window_reply(
-        argument(rt, 1, &mut [0; 131072])?,
-        argument(rt, 2, &mut [0; 131072])?,
-        argument(rt, 3, &mut [0; 131072])?,
+        argument(rt, 1, &mut first)?,
+        argument(rt, 2, &mut last)?,
+        argument(rt, 3, &mut day)?,
     )
 }
 

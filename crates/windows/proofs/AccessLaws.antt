@@ -22,7 +22,7 @@ use Rattle.windows.proofs.DateLaws.{exists_is, decided}
 use Rattle.windows.proofs.OrderLaws.{earlier_is, not_earlier_is}
 
 module _ (w : Window) (d : Date) where
-  all_exist_lem : (all_exist w d ≡ true) ↔ AllExist w d
+  pub all_exist_lem : (all_exist w d ≡ true) ↔ AllExist w d
   all_exist_lem = (
     λ e.
         let outer = and_parts (exists w.first && exists w.last) (exists d) e in

@@ -46,6 +46,28 @@ unfolding days_before_month
 days_before_month_is year month {l = l} is h e =
     ap (λ b. before_by b month) (sym e) ∙ sym (before_entry l month h) ∙ ap (λ b. sum (take month (month_lengths b))) is
 
+-- the days of a month, if the leap day is known to be among them or not
+abbrev length_by : Bool → ℕ → ℕ
+length_by with_leap_day month =
+    cond with_leap_day (get_or (month_lengths false) month 0 + 1) (get_or (month_lengths false) month 0)
+
+-- a leap day makes February longer, and no other month
+pub month_by : (year month : ℕ) {l test : Bool} → l ≡ leap year → l && eqb month 2 ≡ test
+    → length_by test month ≡ month_length year month
+unfolding month_length month_lengths
+month_by year month {l = l} is e =
+    ap (λ b. length_by b month) (sym e) ∙ same l month ∙ ap (λ b. get_or (month_lengths b) month 0) is
+  where
+    later : (month : ℕ) → eqb (suc (suc (suc month))) 2 ≡ false
+    later month = grind (arith, nat_tests)
+
+    same : (l : Bool) (month : ℕ) → length_by (l && eqb month 2) month ≡ get_or (month_lengths l) month 0
+    same false month = refl
+    same true zero = refl
+    same true (suc zero) = refl
+    same true (suc (suc zero)) = refl
+    same true (suc (suc (suc month))) = rw (later month)
+
 pub month_most : (year month : ℕ) → month ≤ 12 → month_length year month ≤ 31
 unfolding month_length month_lengths
 month_most year month h = leb-true _ _ (at_months (short (leap year)) (tested (leap year)) month h)

@@ -1,10 +1,16 @@
 -- E-APP: the typing rule of the left sides, and the right side.
 -- Assumes nothing.
-use Rattle.terms.proofs.Tests.{decides_via, ◌&◌}
+use Rattle.terms.proofs.Tests.{decides_via, decides_then, decides_not}
 use Rattle.rules.specs.RuleChecks.{FollowsIn}
 use Rattle.rules.proofs.CongruenceLaws.{congruence_22}
 use Rattle.rules.proofs.equality.e_app.Goals as goal
 
-pub returns : goal.returns
+pub returns-then-is_node : goal.returns-then-is_node
 unfolding FollowsIn
-returns c = λ contexts G. decides_via congruence_22 (c.wt_app.ensures contexts G & c.is_node.ensures)
+returns-then-is_node c =
+    λ contexts G. decides_via congruence_22
+    (decides_then c.is_node.ensures c.if-is_node.true (c.wt_app.ensures contexts G))
+
+pub returns-else-is_node : goal.returns-else-is_node
+unfolding FollowsIn
+returns-else-is_node c = λ contexts G. decides_via congruence_22 (decides_not c.is_node.ensures c.if-is_node.false)

@@ -17,12 +17,12 @@ unfolding answer_in
 loop-i-preserved g c =
     filling_element _ c.requires c.loop-i.invariant c.loop-i-test.true
     (c.answer_for.ensures
-    ∙ ap answer_for c.search.ensures
+    ∙ ap answer_for c.search_in.ensures
     ∙ ap (answer_in c.args.opened.now.sheet.bytes.now c.args.opened.now.sheet.counts)
     (c.wanted.ensures
     ∙ wanted_element g.J.Judgment.wanted c.args.list.now _ _ c.loop-i-test.true c.index-list-i.is))
 
 pub answer_for-requires : goal.answer_for-requires
 answer_for-requires g c =
-    subst Answerable (sym c.search.ensures)
+    subst Answerable (sym c.search_in.ensures)
     (search_answerable _ _ _ _ (admitted_good _ _ _ c.args.opened.now.sheet.accepted).tables.laid.few_lines)

@@ -1,11 +1,9 @@
-use mathlib.Core.Path.{sym, ◌∙◌}
-use Rattle.windows.specs.Calendar.{month_length, month_lengths}
+use mathlib.Core.Path.{◌∙◌}
+use Rattle.windows.proofs.CalendarLaws.{month_by}
 use Rattle.windows.proofs.calendar.month_length.Goals as goal
 
-pub returns-in-2 : goal.returns-in-2
-unfolding month_length month_lengths
-returns-in-2 c = rw (c.in-2.is, sym c.leap.ensures ∙ c.if-leap.true)
+pub returns-then-leap-month : goal.returns-then-leap-month
+returns-then-leap-month c = rw c.common_length-days.ensures.value (month_by _ _ c.leap.ensures c.if-leap-month.true)
 
-pub returns-in-2-2 : goal.returns-in-2-2
-unfolding month_length month_lengths
-returns-in-2-2 c = rw (c.in-2.is, sym c.leap.ensures ∙ c.if-leap.false)
+pub returns : goal.returns
+returns c = c.common_length-days.ensures.value ∙ month_by _ _ c.leap.ensures c.if-leap-month.false
