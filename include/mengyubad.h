@@ -13,9 +13,9 @@
  * Stack: terms are walked by recursion, at most 3,072 levels deep. Measured on admission, which the other functions on
  * sheets begin with, by tests/c/stack.c: a level takes 128 bytes where a term is substituted in and fewer where it is
  * raised, and the rest 13 KB, so that 3,072 levels take 406 KB. The deepest walk of a sheet that it builds, some 2,030
- * levels, takes 240 KB. A search or a batch takes 4.4 KB more, for the heights of the lines; withdrawal, of a line or
- * of a set, takes 5 KB more, and conversion 6.3 KB, which is 412 KB at 3,072 levels. A normal term of 3,072 levels is
- * marked in 396 KB, measured there too. The two functions on dates walk no terms and need little stack.
+ * levels, takes 240 KB. A search takes 4.3 KB more and a batch 2.3 KB, for the heights of the lines; withdrawal, of a
+ * line or of a set, takes 5 KB more, and conversion 6.3 KB, which is 412 KB at 3,072 levels. A normal term of 3,072
+ * levels is marked in 396 KB, measured there too. The two functions on dates walk no terms and need little stack.
  *
  * Every function returns 0, or the number of a refusal, and sets all three words of `values`:
  *   0       mengyubad_admit: T, C, L; mengyubad_find: the line, 0, 0; mengyubad_find_all: the number of judgments,

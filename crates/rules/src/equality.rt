@@ -1,6 +1,6 @@
 // The own checks of rules 17 to 34, equality. A congruence, as E-PI, is the typing rule of the left sides, and on the
-// right side the same node of the right ones. A typing rule that walks through terms is asked behind the rows that are
-// looked at, and not at all where one of them is another: such a line costs no walk.
+// right side the same node of the right ones. A typing rule that walks through terms is asked last, and only where the
+// rows tested before it are right, so that a line that is wrong in one of these costs no walk.
 #![tactic(auto, using(terms::proofs::Tests::other_rows, crate::proofs::ContextTableAnswers::rows_known), unfolding(crate::specs::RuleChecks::rule_subjects))]
 
 ghost use Rattle.std.specs.Prelude.{[], ◌∷◌};

@@ -145,8 +145,8 @@ pub fn is_instance(
 }
 
 // Rules 33 and 34 with the motive, rows 68 and 69: the first premise is the motive, and from those behind it the
-// judgment follows by the rule as printed. Whoever calls these two tells the rows apart (`cites_motive`): so `e_indzero`
-// and `e_indsuc` have one caller, into which they are compiled.
+// judgment follows by the rule as printed. Whoever calls these two tells the rows apart (`cites_motive`): so
+// `e_indzero` and `e_indsuc` have one caller, into which they are compiled.
 pub fn is_cited_instance(
     table: &RuleTable,
     tables: Tables,

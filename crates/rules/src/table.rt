@@ -149,8 +149,8 @@ const TABLE: [u8; 690] = [
     2, 4, 1, 1, 1, 1, 1, 0, 0, 2,
 ];
 
-// The rule table: every value of the type is that one table. A sheet's is made once (`rule_table`), and lent. Whoever has
-// an array of these numbers can make one of it, and read it cell by cell.
+// The rule table: every value of the type is that one table. A sheet's is made once (`rule_table`), and lent. Whoever
+// has an array of these numbers can make one of it, and read it cell by cell.
 #[derive(Clone, Copy)]
 pub struct RuleTable {
     pub cells: [u8; 690],

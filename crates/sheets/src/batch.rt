@@ -47,9 +47,9 @@ fn answer_for(found: Result<usize, Refusal>) -> u16
     }
 }
 
-// Puts the answer for each judgment of a list. A call for the whole list: one for each judgment takes longer than a search
-// of few lines, and compiled among others the loop over many takes an eighth longer. The lines are asked for once, since
-// the compiler does not know that what is written leaves the sheet as it is.
+// Puts the answer for each judgment of a list. A call for the whole list: one for each judgment takes longer than a
+// search of few lines, and compiled among others the loop over many takes an eighth longer. The lines are asked for
+// once, since the compiler does not know that what is written leaves the sheet as it is.
 #[inline(never)]
 fn search_each<J: Judgment>(opened: &Opened, list: &[J], answers: &mut [u16])
     requires { length list.now ≤ length answers.old }

@@ -52,10 +52,10 @@ length_by with_leap_day month =
     cond with_leap_day (get_or (month_lengths false) month 0 + 1) (get_or (month_lengths false) month 0)
 
 -- a leap day makes February longer, and no other month
-pub month_by : (year month : ℕ) {l test : Bool} → l ≡ leap year → l && eqb month 2 ≡ test
+pub month_length_is : (year month : ℕ) {l test : Bool} → l ≡ leap year → l && eqb month 2 ≡ test
     → length_by test month ≡ month_length year month
 unfolding month_length month_lengths
-month_by year month {l = l} is e =
+month_length_is year month {l = l} is e =
     ap (λ b. length_by b month) (sym e) ∙ same l month ∙ ap (λ b. get_or (month_lengths b) month 0) is
   where
     later : (month : ℕ) → eqb (suc (suc (suc month))) 2 ≡ false

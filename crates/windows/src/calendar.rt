@@ -9,12 +9,12 @@ use crate::dates::Date;
 // By month: the days of the months before it, in a year that is no leap year. A `match` of 13 arms is no plainer.
 const BEFORE: [usize; 13] = [0, 0, 31, 59, 90, 120, 151, 181, 212, 243, 273, 304, 334];
 
-// Is this a leap year? `&` and `|` stand here for speed alone: `&&` and `||` branch, which random years mispredict.
+// Is this a leap year?
 #[tactic(auto, unfolding(crate::specs::Calendar::leap))]
 fn leap(year: usize) -> bool
     ensures { result ≡ leap_of year }
 {
-    (year % 4 == 0) & ((year % 100 != 0) | (year % 400 == 0))
+    year % 4 == 0 && (year % 100 != 0 || year % 400 == 0)
 }
 
 // The days of a month in a year that is no leap year; a number that is no month has none. 31 stands in two arms for
